@@ -1,0 +1,4 @@
+pub mod Computing
+pub mod Examples
+pub mod Scan
+pub mod Tests

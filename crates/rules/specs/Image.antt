@@ -1,0 +1,159 @@
+-- "The partition image": from bytes to tables. Nothing here speaks of memory.
+use mathlib.Core.Bool.{Bool, true, false, _&&_, _||_, not}
+use Prim.Native.Nat.{ℕ, zero, suc, _+_, _-_, _*_, _/_, _%_, min, max}
+use mathlib.Core.List.{List, []}
+use lib.ListN.{length, getD, set, replicate}
+use lib.Dec.{leb, ltb, eqb}
+use Rattle.rules.specs.Types.{Extent, Extents, Target, Source, Plant, Guest, Tables, Refusal, ImageShort, ImageBad, Done, Refused, Loaded}
+use Rattle.rules.specs.Limits.{guestLimit, cpuLimit, extentLimit, sourceLimit, realPages, hostPages}
+use Rattle.rules.specs.Scan.{someBelow, allBelow}
+use Rattle.rules.specs.Kept.{blankExtent, blankCpu, blankSource, blankGuest, noVersions, noGuests, guestAt, plantAt, extentAt, sourceAt}
+use Rattle.rules.specs.Bits.{fieldAt, reaches}
+use Rattle.rules.specs.Rulings.{Ruling, refused, granted, _or-refuse_then_, _grants_, if_then_else_}
+
+-- "missing bits 110 at once", and "a header or count outside its limits answers 111 at once": n bits, from lo to hi
+unfoldable pub countAt : List ℕ → ℕ → ℕ → ℕ → ℕ → Ruling ℕ
+countAt bytes at n lo hi =
+    reaches bytes (at + n) or-refuse ImageShort then
+    (leb lo (fieldAt bytes at n) && leb (fieldAt bytes at n) hi) or-refuse ImageBad then
+    granted (fieldAt bytes at n)
+
+-- "its extents, each real page 28 bits, page count 16, host page 16"
+abbrev pub extentBits : ℕ
+extentBits = 60
+
+abbrev pub readExtent : List ℕ → ℕ → Extent
+readExtent bytes at = record { real = fieldAt bytes at 28; count = fieldAt bytes (at + 28) 16; host = fieldAt bytes (at + 44) 16 }
+
+-- "then its sources, each devhandle 28 bits, devino 7, cookie support 1"; a source is unset, disabled, idle and 0
+abbrev pub sourceBits : ℕ
+sourceBits = 36
+
+abbrev pub readSource : List ℕ → ℕ → Source
+readSource bytes at = record {
+  devhandle = fieldAt bytes at 28;
+  devino = fieldAt bytes (at + 28) 7;
+  cookies = eqb (fieldAt bytes (at + 35) 1) 1;
+  enabled = 0;
+  state = 0;
+  target = Target.Unset;
+  cookie = 0;
+}
+
+-- an array of `size` places, of which the first n hold f 0, f 1, .. and the others are blank
+unfoldable pub filled : {A : Type 0} → ℕ → A → (ℕ → A) → ℕ → List A
+filled size blank f zero = replicate size blank
+filled size blank f (suc n) = set (filled size blank f n) n (f n)
+
+-- a guest's lists from bit `at` on, behind its counts: the extents, then the sources
+unfoldable pub readLists : List ℕ → ℕ → ℕ → ℕ → ℕ → Ruling Guest
+readLists bytes at cpus extents sources =
+    reaches bytes (at + extentBits * extents + sourceBits * sources) or-refuse ImageShort then
+    granted
+    (record {
+      extents = record { count = extents; list = filled extentLimit blankExtent (λ i. readExtent bytes (at + extentBits * i)) extents };
+      plant = record {
+        versions = noVersions;
+        cpus = cpus;
+        cpu = replicate cpuLimit blankCpu;
+        sources = sources;
+        source = filled sourceLimit blankSource (λ i. readSource bytes (at + extentBits * extents + sourceBits * i)) sources;
+      };
+    })
+
+-- "For each guest: cpus 4 bits, extents 3 bits, sources 5 bits"; then its lists
+unfoldable pub readGuest : List ℕ → ℕ → Ruling Guest
+readGuest bytes at =
+    countAt bytes at 4 1 cpuLimit grants λ cpus.
+    countAt bytes (at + 4) 3 1 extentLimit grants λ extents.
+    countAt bytes (at + 7) 5 0 sourceLimit grants λ sources.
+    readLists bytes (at + 12) cpus extents sources
+
+-- the bit behind a guest that starts at `at`
+abbrev pub behind : ℕ → Guest → ℕ
+behind at guest = at + 12 + extentBits * guest .extents .count + sourceBits * guest .plant .sources
+
+-- what has been read: the guests, and the bit behind the last of them
+pub record Partition : Type 0 where
+  pub guest : List Guest
+  pub end : ℕ
+
+-- k more guests from bit `at` on, into the places from i on
+unfoldable pub readGuests : List ℕ → ℕ → ℕ → ℕ → List Guest → Ruling Partition
+readGuests bytes zero at i guest = granted (record { guest = guest; end = at })
+readGuests bytes (suc k) at i guest =
+    readGuest bytes at grants λ next.
+    readGuests bytes k (behind at next) (i + 1) (set guest i next)
+
+-- "page count at least 1; real page plus count at most 2^28; host page plus count at most 65,536"
+unfoldable pub extentRight : Extent → Bool
+extentRight x = leb 1 (x .count) && (leb (x .real + x .count) realPages && leb (x .host + x .count) hostPages)
+
+unfoldable pub extentsRight : Extents → Bool
+extentsRight extents = allBelow (extents .count) (λ i. extentRight (extentAt extents i))
+
+-- "a guest's extents ascend in real page without overlap": each but the first starts at or past the end of the one before it
+unfoldable pub ascend : Extents → Bool
+ascend extents =
+    allBelow (extents .count) (λ i.
+    eqb i 0 || leb (extentAt extents (i - 1) .real + extentAt extents (i - 1) .count) (extentAt extents i .real))
+
+-- run k of the host's runs of pages: extent k % 4 of guest k / 4; one that is absent has no page
+unfoldable pub runAt : Tables → ℕ → Extent
+runAt tables k = extentAt (guestAt tables (k / extentLimit) .extents) (k % extentLimit)
+
+-- a host page is at or past both starts and before both ends
+unfoldable pub share : Extent → Extent → Bool
+share x y = ltb (max (x .host) (y .host)) (min (x .host + x .count) (y .host + y .count))
+
+-- "every run of host pages is compared with every other, and the first pair that shares a page ends the search"
+unfoldable pub pagesShared : Tables → Bool
+pagesShared tables = someBelow (guestLimit * extentLimit) (λ j. someBelow j (λ i. share (runAt tables i) (runAt tables j)))
+
+-- source k of the host's: source k % 16 of guest k / 16, where that guest has so many
+abbrev pub listed : Tables → ℕ → Bool
+listed tables k = ltb (k % sourceLimit) (plantAt tables (k / sourceLimit) .sources)
+
+abbrev pub listedAt : Tables → ℕ → Source
+listedAt tables k = sourceAt (plantAt tables (k / sourceLimit)) (k % sourceLimit)
+
+-- "the same devhandle and devino"
+abbrev pub named : Source → ℕ → ℕ → Bool
+named s devhandle devino = eqb (s .devhandle) devhandle && eqb (s .devino) devino
+
+unfoldable pub twins : Tables → ℕ → ℕ → Bool
+twins tables i j = (listed tables i && listed tables j) && named (listedAt tables i) (listedAt tables j .devhandle) (listedAt tables j .devino)
+
+-- "no two sources on the host have the same devhandle and devino"
+unfoldable pub sourceTwice : Tables → Bool
+sourceTwice tables = someBelow (guestLimit * sourceLimit) (λ j. someBelow j (λ i. twins tables i j))
+
+-- "Zero bits fill the last byte", and "nothing behind": the byte that holds the last bit is the last one
+unfoldable pub filledOut : List ℕ → ℕ → Bool
+filledOut bytes end = eqb (length bytes) ((end + 7) / 8) && eqb (fieldAt bytes end (8 * length bytes - end)) 0
+
+-- "After the last field the other rules are tried, all with 111."
+unfoldable pub judged : List ℕ → ℕ → Tables → Ruling Tables
+judged bytes end tables =
+    allBelow (tables .guests) (λ g. extentsRight (guestAt tables g .extents)) or-refuse ImageBad then
+    allBelow (tables .guests) (λ g. ascend (guestAt tables g .extents)) or-refuse ImageBad then
+    not (pagesShared tables) or-refuse ImageBad then
+    not (sourceTwice tables) or-refuse ImageBad then
+    filledOut bytes end or-refuse ImageBad then
+    granted tables
+
+-- "Header: edition 4 bits (1), guests 4 bits (1 to 4)", and the guests; "Fields are read in order"
+unfoldable pub readImage : List ℕ → Ruling Tables
+readImage bytes =
+    countAt bytes 0 4 1 1 grants λ edition.
+    countAt bytes 4 4 1 guestLimit grants λ guests.
+    readGuests bytes guests 8 0 (replicate guestLimit blankGuest) grants λ partition.
+    judged bytes (partition .end) (record { guests = guests; guest = partition .guest })
+
+-- an accepted image answers 0; 110 and 111 leave "tables with no guest"
+abbrev pub loadedAs : Ruling Tables → Loaded
+loadedAs (refused r) = record { answer = Refused r; tables = noGuests }
+loadedAs (granted tables) = record { answer = Done; tables = tables }
+
+unfoldable pub load : List ℕ → Loaded
+load bytes = loadedAs (readImage bytes)

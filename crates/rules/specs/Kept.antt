@@ -1,0 +1,138 @@
+-- "What the host keeps": each record as it is after loading, where it is found in the tables, and the tables with it replaced.
+use mathlib.Core.Bool.{false}
+use mathlib.Core.List.{List, []}
+use Prim.Native.Nat.{ℕ}
+use lib.ListN.{getD, set, replicate, take}
+use Rattle.rules.specs.Types.{Extent, Extents, Ring, QueueRecord, Queue, Tsb, TsbList, Cpu, Target, Source, Versions, Plant, Guest, Tables}
+use Rattle.rules.specs.Limits.{guestLimit, cpuLimit, extentLimit, sourceLimit, queueLimit, tsbLimit}
+
+-- "After loading, all is unset, disabled, idle and 0, and the records of absent guests, cpus, extents, sources and list places stay so."
+
+abbrev pub blankExtent : Extent
+blankExtent = record { real = 0; count = 0; host = 0 }
+
+abbrev pub blankQueue : Queue
+blankQueue = record { held = QueueRecord.Unset }
+
+abbrev pub blankTsb : Tsb
+blankTsb = record { index = 0; associativity = 0; entries = 0; context = 0; mask = 0; base = 0 }
+
+abbrev pub blankTsbs : TsbList
+blankTsbs = record { count = 0; list = replicate tsbLimit blankTsb }
+
+abbrev pub blankCpu : Cpu
+blankCpu = record { queues = replicate queueLimit blankQueue; ctx0 = blankTsbs; ctxnon0 = blankTsbs; statistics = 0 }
+
+abbrev pub blankSource : Source
+blankSource = record { devhandle = 0; devino = 0; cookies = false; enabled = 0; state = 0; target = Target.Unset; cookie = 0 }
+
+abbrev pub noVersions : Versions
+noVersions = record { sun4v = 0; core = 0; interrupt = 0; statistics = 0 }
+
+abbrev pub blankGuest : Guest
+blankGuest = record {
+  extents = record { count = 0; list = replicate extentLimit blankExtent };
+  plant = record { versions = noVersions; cpus = 0; cpu = replicate cpuLimit blankCpu; sources = 0; source = replicate sourceLimit blankSource };
+}
+
+-- the tables with no guest
+unfoldable pub noGuests : Tables
+noGuests = record { guests = 0; guest = replicate guestLimit blankGuest }
+
+-- Where a record is found. What stands past the end of a list is a record with nothing in it; no rule reads there.
+
+abbrev pub hollowCpu : Cpu
+hollowCpu = record { queues = []; ctx0 = record { count = 0; list = [] }; ctxnon0 = record { count = 0; list = [] }; statistics = 0 }
+
+abbrev pub hollowGuest : Guest
+hollowGuest = record {
+  extents = record { count = 0; list = [] };
+  plant = record { versions = noVersions; cpus = 0; cpu = []; sources = 0; source = [] };
+}
+
+abbrev pub guestAt : Tables → ℕ → Guest
+guestAt tables g = getD (tables .guest) g hollowGuest
+
+abbrev pub plantAt : Tables → ℕ → Plant
+plantAt tables g = guestAt tables g .plant
+
+abbrev pub extentAt : Extents → ℕ → Extent
+extentAt extents i = getD (extents .list) i blankExtent
+
+-- the extents that are there
+abbrev pub extentsOf : Tables → ℕ → List Extent
+extentsOf tables g = take (guestAt tables g .extents .count) (guestAt tables g .extents .list)
+
+abbrev pub cpuAt : Plant → ℕ → Cpu
+cpuAt plant c = getD (plant .cpu) c hollowCpu
+
+abbrev pub queueAt : Cpu → ℕ → QueueRecord
+queueAt cpu q = getD (cpu .queues) q blankQueue .held
+
+abbrev pub tsbAt : TsbList → ℕ → Tsb
+tsbAt tsbs i = getD (tsbs .list) i blankTsb
+
+abbrev pub sourceAt : Plant → ℕ → Source
+sourceAt plant i = getD (plant .source) i blankSource
+
+-- A record replaced, and all else as it was.
+
+abbrev pub withPlant : Tables → ℕ → Plant → Tables
+withPlant tables g plant = record {
+  guests = tables .guests;
+  guest = set (tables .guest) g (record { extents = guestAt tables g .extents; plant = plant });
+}
+
+abbrev pub withVersions : Plant → Versions → Plant
+withVersions plant versions = record { versions = versions; cpus = plant .cpus; cpu = plant .cpu; sources = plant .sources; source = plant .source }
+
+abbrev pub withCpu : Plant → ℕ → Cpu → Plant
+withCpu plant c cpu = record { versions = plant .versions; cpus = plant .cpus; cpu = set (plant .cpu) c cpu; sources = plant .sources; source = plant .source }
+
+abbrev pub withSources : Plant → List Source → Plant
+withSources plant sources = record { versions = plant .versions; cpus = plant .cpus; cpu = plant .cpu; sources = plant .sources; source = sources }
+
+unfoldable pub withSource : Plant → ℕ → Source → Plant
+withSource plant i source = withSources plant (set (plant .source) i source)
+
+abbrev pub cpuWithQueue : Cpu → ℕ → QueueRecord → Cpu
+cpuWithQueue cpu q held = record { queues = set (cpu .queues) q (record { held = held }); ctx0 = cpu .ctx0; ctxnon0 = cpu .ctxnon0; statistics = cpu .statistics }
+
+unfoldable pub withQueue : Plant → ℕ → ℕ → QueueRecord → Plant
+withQueue plant c q held = withCpu plant c (cpuWithQueue (cpuAt plant c) q held)
+
+abbrev pub cpuWithCtx0 : Cpu → TsbList → Cpu
+cpuWithCtx0 cpu tsbs = record { queues = cpu .queues; ctx0 = tsbs; ctxnon0 = cpu .ctxnon0; statistics = cpu .statistics }
+
+unfoldable pub withCtx0 : Plant → ℕ → TsbList → Plant
+withCtx0 plant c tsbs = withCpu plant c (cpuWithCtx0 (cpuAt plant c) tsbs)
+
+abbrev pub cpuWithCtxnon0 : Cpu → TsbList → Cpu
+cpuWithCtxnon0 cpu tsbs = record { queues = cpu .queues; ctx0 = cpu .ctx0; ctxnon0 = tsbs; statistics = cpu .statistics }
+
+unfoldable pub withCtxnon0 : Plant → ℕ → TsbList → Plant
+withCtxnon0 plant c tsbs = withCpu plant c (cpuWithCtxnon0 (cpuAt plant c) tsbs)
+
+abbrev pub cpuWithStatistics : Cpu → ℕ → Cpu
+cpuWithStatistics cpu a = record { queues = cpu .queues; ctx0 = cpu .ctx0; ctxnon0 = cpu .ctxnon0; statistics = a }
+
+unfoldable pub withStatistics : Plant → ℕ → ℕ → Plant
+withStatistics plant c a = withCpu plant c (cpuWithStatistics (cpuAt plant c) a)
+
+abbrev pub withHead : Ring → ℕ → Ring
+withHead ring head = record { base = ring .base; size = ring .size; head = head; tail = ring .tail }
+
+abbrev pub withTail : Ring → ℕ → Ring
+withTail ring tail = record { base = ring .base; size = ring .size; head = ring .head; tail = tail }
+
+abbrev pub withEnabled : Source → ℕ → Source
+withEnabled s enabled = record { devhandle = s .devhandle; devino = s .devino; cookies = s .cookies; enabled = enabled; state = s .state; target = s .target; cookie = s .cookie }
+
+abbrev pub withState : Source → ℕ → Source
+withState s state = record { devhandle = s .devhandle; devino = s .devino; cookies = s .cookies; enabled = s .enabled; state = state; target = s .target; cookie = s .cookie }
+
+abbrev pub withTarget : Source → Target → Source
+withTarget s target = record { devhandle = s .devhandle; devino = s .devino; cookies = s .cookies; enabled = s .enabled; state = s .state; target = target; cookie = s .cookie }
+
+abbrev pub withCookie : Source → ℕ → Source
+withCookie s cookie = record { devhandle = s .devhandle; devino = s .devino; cookies = s .cookies; enabled = s .enabled; state = s .state; target = s .target; cookie = cookie }

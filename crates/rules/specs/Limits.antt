@@ -1,0 +1,39 @@
+-- The limits that the paper sets on the tables; src/lib.rt names the same ones for the arrays.
+use Prim.Native.Nat.{ℕ}
+
+-- "Guests 0 to 3. Each has 1 to 8 cpus, 1 to 4 extents of memory, 0 to 16 interrupt sources."
+abbrev pub guestLimit : ℕ
+guestLimit = 4
+
+abbrev pub cpuLimit : ℕ
+cpuLimit = 8
+
+abbrev pub extentLimit : ℕ
+extentLimit = 4
+
+abbrev pub sourceLimit : ℕ
+sourceLimit = 16
+
+-- "Each of the eight cpus has four queue records and two TSB lists of at most 4."
+abbrev pub queueLimit : ℕ
+queueLimit = 4
+
+abbrev pub tsbLimit : ℕ
+tsbLimit = 4
+
+-- "pages of 8,192 bytes", of which a real address has 28 bits' worth and the host 65,536
+abbrev pub pageSize : ℕ
+pageSize = 8192
+
+abbrev pub realPages : ℕ
+realPages = 0x1000_0000
+
+abbrev pub hostPages : ℕ
+hostPages = 65536
+
+-- devhandle has 28 bits and devino 7
+abbrev pub devhandles : ℕ
+devhandles = 0x1000_0000
+
+abbrev pub devinos : ℕ
+devinos = 128

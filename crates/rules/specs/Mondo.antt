@@ -1,0 +1,72 @@
+-- "Queues and mondos": 0x42, a mondo to each cpu of a list (000, section 7.2.8).
+use mathlib.Core.Bool.{Bool, true, false, _&&_, not}
+use mathlib.Core.List.{List, [], _∷_, _++_}
+use Prim.Native.Nat.{ℕ, zero, suc, _+_, _*_, _%_}
+use lib.Dec.{leb, ltb, eqb}
+use Rattle.rules.specs.Types.{Ring, QueueRecord, Plant, Answer, Done, Refused, EINVAL, EBADALIGN, ENORADDR, ENOCPU, EWOULDBLOCK}
+use Rattle.rules.specs.Scan.{someBelow, allBelow}
+use Rattle.rules.specs.Kept.{cpuAt, queueAt, withQueue, withTail}
+use Rattle.rules.specs.Real.{Sight, Write, numberOf, bytesFrom}
+use Rattle.rules.specs.Rulings.{Ruling, granted, Outcome, _or-refuse_then_, if_then_else_}
+use Rattle.rules.specs.Queues.{nextTail, hasRoom}
+
+-- entry i of a list of cpus, and its first k entries: 2 bytes each
+abbrev pub entryAt : (ℕ → ℕ) → ℕ → ℕ → ℕ
+entryAt byte list i = numberOf byte (list + 2 * i) 2
+
+unfoldable pub entries : (ℕ → ℕ) → ℕ → ℕ → List ℕ
+entries byte list zero = []
+entries byte list (suc k) = entries byte list k ++ (entryAt byte list k ∷ [])
+
+-- what sending has come to: the plant's record, whether no entry was left, and the writes
+pub record Sent : Type 0 where
+  pub plant : Plant
+  pub all : Bool
+  pub writes : List Write
+
+-- the 0x3c ring of a cpu
+abbrev pub cpuMondo : ℕ
+cpuMondo = 0
+
+-- "if that cpu's 0x3c ring exists and has room, the data is written at its tail, tail moves on, and the list entry
+-- becomes 0xffff": the entry stands at `mark`
+abbrev pub sendTo : Plant → ℕ → List ℕ → ℕ → QueueRecord → Sent
+sendTo plant cpu packet mark QueueRecord.Unset = record { plant = plant; all = false; writes = [] }
+sendTo plant cpu packet mark (QueueRecord.Set ring) =
+    if hasRoom ring
+    then record {
+      plant = withQueue plant cpu cpuMondo (QueueRecord.Set (withTail ring (nextTail ring)));
+      all = true;
+      writes = record { at = ring .base + ring .tail; bytes = packet } ∷ record { at = mark; bytes = 0xff ∷ 0xff ∷ [] } ∷ [];
+    }
+    else record { plant = plant; all = false; writes = [] }
+
+unfoldable pub sendOne : Plant → ℕ → List ℕ → ℕ → Sent
+sendOne plant cpu packet mark = sendTo plant cpu packet mark (queueAt (cpuAt plant cpu) cpuMondo)
+
+-- "Then in list order": each ring's room is judged as it is when its turn comes
+unfoldable pub sendAll : Plant → List ℕ → List ℕ → ℕ → Sent
+sendAll plant [] packet mark = record { plant = plant; all = true; writes = [] }
+sendAll plant (cpu ∷ cpus) packet mark =
+    let one : Sent = sendOne plant cpu packet mark in
+    let rest : Sent = sendAll (one .plant) cpus packet (mark + 2) in
+    record { plant = rest .plant; all = one .all && rest .all; writes = one .writes ++ rest .writes }
+
+-- "Any entry left: EWOULDBLOCK." What was sent stays sent.
+abbrev pub sentAs : Sent → Outcome
+sentAs sent = record { answer = if sent .all then Done else Refused EWOULDBLOCK; plant = sent .plant; writes = sent .writes }
+
+module _ (sight : Sight) (plant : Plant) (cpu : ℕ) where
+  open Sight sight using (valid, byte)
+
+  -- 0x42 (count, list, data): "count 0 or above 64 EINVAL; data not on 64 or list not on 2 EBADALIGN; 64 bytes of data or
+  -- 2·count bytes of list not valid ENORADDR; any entry equal to the caller EINVAL; after that, any entry that is no cpuid
+  -- of the guest (0xffff too) ENOCPU. List and data are read once, before any write."
+  unfoldable pub cpu-mondo-send : ℕ → ℕ → ℕ → Ruling Outcome
+  cpu-mondo-send count list dataAt =
+      (leb 1 count && leb count 64) or-refuse EINVAL then
+      (eqb (dataAt % 64) 0 && eqb (list % 2) 0) or-refuse EBADALIGN then
+      (valid dataAt 64 && valid list (2 * count)) or-refuse ENORADDR then
+      not (someBelow count (λ i. eqb (entryAt byte list i) cpu)) or-refuse EINVAL then
+      allBelow count (λ i. ltb (entryAt byte list i) (plant .cpus)) or-refuse ENOCPU then
+      granted (sentAs (sendAll plant (entries byte list count) (bytesFrom byte dataAt 64) list))

@@ -1,0 +1,82 @@
+-- "Queues and mondos": 0x14, 0x15, 0x16 and the head write (000, sections 7.2.6, 7.2.7 and 7.2.9).
+use mathlib.Core.Bool.{Bool, _&&_, not}
+use Prim.Native.Nat.{ℕ, _+_, _-_, _*_, _/_, _%_, _^_}
+use lib.Dec.{leb, ltb, eqb}
+use Rattle.rules.specs.Types.{Ring, QueueRecord, Plant, Answer, One, Two, EINVAL, EBADALIGN, ENORADDR}
+use Rattle.rules.specs.Scan.{someBelow}
+use Rattle.rules.specs.Kept.{cpuAt, queueAt, withQueue, withHead}
+use Rattle.rules.specs.Real.{Sight}
+use Rattle.rules.specs.Rulings.{Ruling, refused, granted, Outcome, _or-refuse_then_, _grants_, if_then_else_, says, done}
+
+-- "queue not 0x3c to 0x3f": the cpu's four records, in that order
+abbrev pub isQueue : ℕ → Bool
+isQueue queue = leb 0x3c queue && leb queue 0x3f
+
+abbrev pub indexOf : ℕ → ℕ
+indexOf queue = queue - 0x3c
+
+-- one of the k powers of two that are p, 2p, 4p ..
+unfoldable pub powerFrom : ℕ → ℕ → ℕ → Bool
+powerFrom p k n = someBelow k (λ i. eqb n (p * 2 ^ i))
+
+-- "n not a power of two, below 2 or above 256 EINVAL; base not a multiple of 64n EBADALIGN; range not valid ENORADDR.
+-- Then head = tail = 0."
+unfoldable pub newRing : (ℕ → ℕ → Bool) → ℕ → ℕ → Ruling Ring
+newRing valid base n =
+    powerFrom 2 8 n or-refuse EINVAL then
+    eqb (base % (64 * n)) 0 or-refuse EBADALIGN then
+    valid base (64 * n) or-refuse ENORADDR then
+    granted (record { base = base; size = 64 * n; head = 0; tail = 0 })
+
+-- "A ring is full when tail + 64, modulo its size, is head: it holds n-1."
+abbrev pub nextTail : Ring → ℕ
+nextTail ring = (ring .tail + 64) % ring .size
+
+unfoldable pub hasRoom : Ring → Bool
+hasRoom ring = not (eqb (nextTail ring) (ring .head))
+
+-- how far a place of the ring lies forward from its head
+abbrev pub forward : Ring → ℕ → ℕ
+forward ring to = (to + ring .size - ring .head) % ring .size
+
+-- the ring of a record, "or unset EINVAL"
+abbrev pub ringOf : QueueRecord → Ruling Ring
+ringOf QueueRecord.Unset = refused EINVAL
+ringOf (QueueRecord.Set ring) = granted ring
+
+-- "base and n, both 0 if unset"
+abbrev pub baseAndSize : QueueRecord → Answer
+baseAndSize QueueRecord.Unset = Two 0 0
+baseAndSize (QueueRecord.Set ring) = Two (ring .base) (ring .size / 64)
+
+module _ (sight : Sight) (plant : Plant) (cpu : ℕ) where
+  open Sight sight using (valid)
+
+  -- 0x14 (queue, base, n): "n = 0 unsets and ignores base"
+  unfoldable pub cpu-qconf : ℕ → ℕ → ℕ → Ruling Outcome
+  cpu-qconf queue base n =
+      isQueue queue or-refuse EINVAL then
+      if eqb n 0 then done (withQueue plant cpu (indexOf queue) QueueRecord.Unset) else
+      newRing valid base n grants λ ring.
+      done (withQueue plant cpu (indexOf queue) (QueueRecord.Set ring))
+
+module _ (plant : Plant) (cpu : ℕ) where
+  -- 0x15 (queue)
+  unfoldable pub cpu-qinfo : ℕ → Ruling Outcome
+  cpu-qinfo queue =
+      isQueue queue or-refuse EINVAL then
+      says (baseAndSize (queueAt (cpuAt plant cpu) (indexOf queue))) plant
+
+  -- 0x16: "cpuid"
+  unfoldable pub cpu-myid : Ruling Outcome
+  cpu-myid = says (One cpu) plant
+
+  -- head (queue, value): "queue number or unset EINVAL; value not a multiple of 64 EBADALIGN; value at or past the size, or
+  -- further forward from head than tail is, EINVAL. A head write moves the one field of one ring and nothing else."
+  unfoldable pub write-head : ℕ → ℕ → Ruling Outcome
+  write-head queue value =
+      isQueue queue or-refuse EINVAL then
+      ringOf (queueAt (cpuAt plant cpu) (indexOf queue)) grants λ ring.
+      eqb (value % 64) 0 or-refuse EBADALIGN then
+      (ltb value (ring .size) && leb (forward ring value) (forward ring (ring .tail))) or-refuse EINVAL then
+      done (withQueue plant cpu (indexOf queue) (QueueRecord.Set (withHead ring value)))

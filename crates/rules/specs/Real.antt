@@ -1,0 +1,94 @@
+-- "A real address and a host offset": what a guest sees of memory through its extents. `valid` and `located` are the only
+-- places that say where a real address lies; every other rule speaks of a Sight.
+use Prim.Native.Nat.{ℕ, zero, suc, _+_, _-_, _*_, _/_, _%_, _^_}
+use mathlib.Core.Bool.{Bool, true, false, _&&_, _||_, cond}
+use mathlib.Core.List.{List, [], _∷_}
+use lib.Dec.{leb}
+use lib.ListN.{getD, set}
+use Rattle.rules.specs.Types.{Real, Host, Place, Extent}
+use Rattle.rules.specs.Limits.{pageSize}
+
+-- "an extent maps real page r+i to host page h+i": its first real address, and the one past its last
+abbrev pub low : Extent → ℕ
+low x = x .real * pageSize
+
+abbrev pub high : Extent → ℕ
+high x = (x .real + x .count) * pageSize
+
+-- the host offset of a real address of the extent
+abbrev pub hostOffset : Extent → Real → Host
+hostOffset x a = record { 0 = x .host * pageSize + (a .0 - low x) }
+
+-- all of the n bytes from a on lie in the extent; the numbers here are unbounded, so the sum cannot wrap
+abbrev pub holds : Extent → ℕ → ℕ → Bool
+holds x a n = leb (low x) a && leb (a + n) (high x)
+
+-- "A range of real addresses is valid for a guest if all of it lies in one of its extents."
+unfoldable pub valid : List Extent → ℕ → ℕ → Bool
+valid [] a n = false
+valid (x ∷ xs) a n = holds x a n || valid xs a n
+
+-- where the range of n bytes from a on starts on the host
+unfoldable pub located : List Extent → ℕ → ℕ → Place
+located [] a n = Place.Nowhere
+located (x ∷ xs) a n = cond (holds x a n) (Place.At (hostOffset x (record { 0 = a }))) (located xs a n)
+
+-- the byte of the host's memory at a place; 0 where there is none
+abbrev pub byteThere : List ℕ → Place → ℕ
+byteThere memory Place.Nowhere = 0
+byteThere memory (Place.At h) = getD memory (h .0) 0
+
+-- the byte at the real address a
+unfoldable pub byteAt : List Extent → List ℕ → ℕ → ℕ
+byteAt extents memory a = byteThere memory (located extents a 1)
+
+-- what a plant sees of memory: which ranges are its own, and the byte at each real address
+pub record Sight : Type 0 where
+  pub valid : ℕ → ℕ → Bool
+  pub byte : ℕ → ℕ
+
+abbrev pub sightOf : List Extent → List ℕ → Sight
+sightOf extents memory = record { valid = valid extents; byte = byteAt extents memory }
+
+-- "Memory is big-endian": the number that the k bytes from a on make, most significant first
+unfoldable pub numberOf : (ℕ → ℕ) → ℕ → ℕ → ℕ
+numberOf byte a zero = 0
+numberOf byte a (suc k) = numberOf byte a k * 256 + byte (a + k)
+
+-- the eight bytes of a word, most significant first
+unfoldable pub wordBytes : ℕ → List ℕ
+wordBytes v =
+    v / 2 ^ 56 % 256
+    ∷ v / 2 ^ 48 % 256
+    ∷ v / 2 ^ 40 % 256
+    ∷ v / 2 ^ 32 % 256
+    ∷ v / 2 ^ 24 % 256
+    ∷ v / 2 ^ 16 % 256
+    ∷ v / 2 ^ 8 % 256
+    ∷ v % 256
+    ∷ []
+
+-- the n bytes from a on
+unfoldable pub bytesFrom : (ℕ → ℕ) → ℕ → ℕ → List ℕ
+bytesFrom byte a zero = []
+bytesFrom byte a (suc n) = byte a ∷ bytesFrom byte (suc a) n
+
+-- a write of a guest: bytes from a real address on
+pub record Write : Type 0 where
+  pub at : ℕ
+  pub bytes : List ℕ
+
+-- the host's memory with a byte at a place
+abbrev pub putThere : List ℕ → Place → ℕ → List ℕ
+putThere memory Place.Nowhere v = memory
+putThere memory (Place.At h) v = set memory (h .0) v
+
+-- with bytes from the real address a on, each put where its own address lies
+unfoldable pub putBytes : List Extent → List ℕ → ℕ → List ℕ → List ℕ
+putBytes extents memory a [] = memory
+putBytes extents memory a (v ∷ vs) = putBytes extents (putThere memory (located extents a 1) v) (suc a) vs
+
+-- with a list of writes done, in order
+unfoldable pub apply : List Extent → List ℕ → List Write → List ℕ
+apply extents memory [] = memory
+apply extents memory (w ∷ ws) = apply extents (putBytes extents memory (w .at) (w .bytes)) ws

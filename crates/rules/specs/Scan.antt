@@ -1,0 +1,24 @@
+-- Tests over the numbers below a limit: what the rules say of "each", "any" and "the first".
+use mathlib.Core.Bool.{Bool, true, false, _&&_, _||_, cond}
+use Prim.Native.Nat.{ℕ, zero, suc}
+use Rattle.rules.specs.Types.{Found}
+
+-- p holds of some number below n
+unfoldable pub someBelow : ℕ → (ℕ → Bool) → Bool
+someBelow zero p = false
+someBelow (suc n) p = someBelow n p || p n
+
+-- p holds of each number below n
+unfoldable pub allBelow : ℕ → (ℕ → Bool) → Bool
+allBelow zero p = true
+allBelow (suc n) p = allBelow n p && p n
+
+-- the place that was found before, or n if the test holds there
+abbrev pub foundOr : Found → Bool → ℕ → Found
+foundOr Found.Nothing b n = cond b (Found.At n) Found.Nothing
+foundOr (Found.At i) b n = Found.At i
+
+-- the first number below n of which p holds
+unfoldable pub firstBelow : ℕ → (ℕ → Bool) → Found
+firstBelow zero p = Found.Nothing
+firstBelow (suc n) p = foundOr (firstBelow n p) (p n) n

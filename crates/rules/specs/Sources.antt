@@ -1,0 +1,142 @@
+-- "Interrupt sources": 0xa0 to 0xae (000, section 10; 002, section 3) and raise.
+use mathlib.Core.Bool.{Bool, true, false, _&&_, _||_, not}
+use mathlib.Core.List.{List, [], _∷_, _++_}
+use Prim.Native.Nat.{ℕ, _+_}
+use lib.Dec.{leb, ltb, eqb}
+use lib.ListN.{replicate}
+use Rattle.rules.specs.Types.{Found, Ring, QueueRecord, Target, Source, Plant, One, Refusal, EINVAL, ENOCPU, ENOTSUPPORTED, EBADTRAP, NoSource}
+use Rattle.rules.specs.Scan.{firstBelow}
+use Rattle.rules.specs.Kept.{cpuAt, queueAt, sourceAt, withQueue, withTail, withSource, withEnabled, withState, withTarget, withCookie}
+use Rattle.rules.specs.Real.{wordBytes}
+use Rattle.rules.specs.Image.{named}
+use Rattle.rules.specs.Rulings.{Ruling, refused, granted, Outcome, _or-refuse_then_, _grants_, if_then_else_, says, done}
+use Rattle.rules.specs.Queues.{nextTail, hasRoom}
+
+-- "Sysino is the position in the guest's own list."
+unfoldable pub sysinoOf : Plant → ℕ → ℕ → Found
+sysinoOf plant devhandle devino = firstBelow (plant .sources) (λ i. named (sourceAt plant i) devhandle devino)
+
+-- the position, or the refusal where there is none: "source not the caller's EINVAL, a neighbour's and a missing one alike"
+abbrev pub found : Refusal → Found → Ruling ℕ
+found r Found.Nothing = refused r
+found r (Found.At i) = granted i
+
+-- "An unset target reads 0."
+abbrev pub targetNumber : Target → ℕ
+targetNumber Target.Unset = 0
+targetNumber (Target.Cpu c) = c
+
+module _ (plant : Plant) (i : ℕ) where
+  -- "get and set enabled (0 or 1)"; "Under 2.0, enabling with cookie 0 EINVAL."
+  unfoldable pub get-enabled : Ruling Outcome
+  get-enabled = says (One (sourceAt plant i .enabled)) plant
+
+  unfoldable pub set-enabled : ℕ → Ruling Outcome
+  set-enabled value =
+      leb value 1 or-refuse EINVAL then
+      not (eqb value 1 && (eqb (plant .versions .interrupt) 2 && eqb (sourceAt plant i .cookie) 0)) or-refuse EINVAL then
+      done (withSource plant i (withEnabled (sourceAt plant i) value))
+
+  -- "state (idle 0, received 1, delivered 2)"
+  unfoldable pub get-state : Ruling Outcome
+  get-state = says (One (sourceAt plant i .state)) plant
+
+  unfoldable pub set-state : ℕ → Ruling Outcome
+  set-state value =
+      leb value 2 or-refuse EINVAL then
+      done (withSource plant i (withState (sourceAt plant i) value))
+
+  -- "target": "no such cpuid ENOCPU"
+  unfoldable pub get-target : Ruling Outcome
+  get-target = says (One (targetNumber (sourceAt plant i .target))) plant
+
+  unfoldable pub set-target : ℕ → Ruling Outcome
+  set-target value =
+      ltb value (plant .cpus) or-refuse ENOCPU then
+      done (withSource plant i (withTarget (sourceAt plant i) (Target.Cpu value)))
+
+  -- "Cookie 1 to 2,047 EINVAL; cookie 0 disables."
+  unfoldable pub get-cookie : Ruling Outcome
+  get-cookie = says (One (sourceAt plant i .cookie)) plant
+
+  unfoldable pub set-cookie : ℕ → Ruling Outcome
+  set-cookie value =
+      (eqb value 0 || ltb 2047 value) or-refuse EINVAL then
+      if eqb value 0
+      then done (withSource plant i (withEnabled (withCookie (sourceAt plant i) 0) 0))
+      else done (withSource plant i (withCookie (sourceAt plant i) value))
+
+-- 0xa0 (devhandle, devino): "turns devhandle, devino into it"
+unfoldable pub intr-devino2sysino : Plant → ℕ → ℕ → Ruling Outcome
+intr-devino2sysino plant devhandle devino =
+    found EINVAL (sysinoOf plant devhandle devino) grants λ i.
+    says (One i) plant
+
+-- 0xa1 to 0xa6 (sysino, value)
+unfoldable pub intr : Plant → ℕ → ℕ → ℕ → Ruling Outcome
+intr plant function sysino value =
+    ltb sysino (plant .sources) or-refuse EINVAL then
+    if eqb function 0xa1 then get-enabled plant sysino else
+    if eqb function 0xa2 then set-enabled plant sysino value else
+    if eqb function 0xa3 then get-state plant sysino else
+    if eqb function 0xa4 then set-state plant sysino value else
+    if eqb function 0xa5 then get-target plant sysino else
+    if eqb function 0xa6 then set-target plant sysino value else
+    refused EBADTRAP
+
+-- 0xa7 to 0xae (devhandle, devino, value): "no cookie support, ENOTSUPPORTED"
+unfoldable pub vintr : Plant → ℕ → ℕ → ℕ → ℕ → Ruling Outcome
+vintr plant function devhandle devino value =
+    found EINVAL (sysinoOf plant devhandle devino) grants λ i.
+    sourceAt plant i .cookies or-refuse ENOTSUPPORTED then
+    if eqb function 0xa7 then get-cookie plant i else
+    if eqb function 0xa8 then set-cookie plant i value else
+    if eqb function 0xa9 then get-enabled plant i else
+    if eqb function 0xaa then set-enabled plant i value else
+    if eqb function 0xab then get-state plant i else
+    if eqb function 0xac then set-state plant i value else
+    if eqb function 0xad then get-target plant i else
+    if eqb function 0xae then set-target plant i value else
+    refused EBADTRAP
+
+-- the 0x3d ring of a cpu
+abbrev pub devMondo : ℕ
+devMondo = 1
+
+-- "an entry is written at its tail (word 0 cookie, or under 1.0 sysino; seven zero words)"
+unfoldable pub deviceEntry : Plant → ℕ → List ℕ
+deviceEntry plant i = wordBytes (if eqb (plant .versions .interrupt) 2 then sourceAt plant i .cookie else i) ++ replicate 56 0
+
+-- "the state becomes received"
+abbrev pub received : Plant → ℕ → Outcome
+received plant i = record { answer = One 1; plant = withSource plant i (withState (sourceAt plant i) 1); writes = [] }
+
+-- "an entry is written at its tail, which moves on, and the state is delivered": the ring is the target's
+abbrev pub delivered : Plant → ℕ → ℕ → Ring → Outcome
+delivered plant i c ring = record {
+  answer = One 2;
+  plant = withSource (withQueue plant c devMondo (QueueRecord.Set (withTail ring (nextTail ring)))) i (withState (sourceAt plant i) 2);
+  writes = record { at = ring .base + ring .tail; bytes = deviceEntry plant i } ∷ [];
+}
+
+-- "if enabled, target set and its 0x3d ring has room"
+abbrev pub deliverTo : Plant → ℕ → ℕ → QueueRecord → Outcome
+deliverTo plant i c QueueRecord.Unset = received plant i
+deliverTo plant i c (QueueRecord.Set ring) = if hasRoom ring then delivered plant i c ring else received plant i
+
+abbrev pub deliver : Plant → ℕ → Target → Outcome
+deliver plant i Target.Unset = received plant i
+deliver plant i (Target.Cpu c) = deliverTo plant i c (queueAt (cpuAt plant c) devMondo)
+
+-- raise: "delivered stays. Else the state becomes received". "Value 1 is the state after."
+unfoldable pub raiseAt : Plant → ℕ → Ruling Outcome
+raiseAt plant i =
+    if eqb (sourceAt plant i .state) 2 then says (One 2) plant else
+    if eqb (sourceAt plant i .enabled) 1 then granted (deliver plant i (sourceAt plant i .target)) else
+    granted (received plant i)
+
+-- (devhandle, devino): "no such source 104"
+unfoldable pub raise : Plant → ℕ → ℕ → Ruling Outcome
+raise plant devhandle devino =
+    found NoSource (sysinoOf plant devhandle devino) grants λ i.
+    raiseAt plant i

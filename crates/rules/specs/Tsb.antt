@@ -1,0 +1,80 @@
+-- "TSB lists": 0x20 and 0x21 (000, sections 8.2, 8.5.1 and 8.5.2).
+use mathlib.Core.Bool.{Bool, _&&_, _||_, not}
+use mathlib.Core.List.{List}
+use Prim.Native.Nat.{ℕ, zero, suc, _+_, _*_, _/_, _%_, _^_}
+use lib.Dec.{leb, eqb}
+use lib.ListN.{set, replicate}
+use Rattle.rules.specs.Types.{Tsb, TsbList, Plant, EINVAL, EBADALIGN, ENORADDR, EBADPGSZ, EBADTSB}
+use Rattle.rules.specs.Limits.{tsbLimit}
+use Rattle.rules.specs.Scan.{allBelow}
+use Rattle.rules.specs.Kept.{blankTsb, blankTsbs, withCtx0, withCtxnon0}
+use Rattle.rules.specs.Real.{Sight, numberOf}
+use Rattle.rules.specs.Rulings.{Ruling, granted, Outcome, _or-refuse_then_, _grants_, if_then_else_, done}
+use Rattle.rules.specs.Queues.{powerFrom}
+
+-- "Descriptor, at byte 0 page index (16 bits), 2 associativity (16), 4 entries (32), 8 context index (32), 12 page mask (32),
+-- 16 base (64), 24 reserved, not kept."
+unfoldable pub descriptorAt : (ℕ → ℕ) → ℕ → Tsb
+descriptorAt byte a = record {
+  index = numberOf byte a 2;
+  associativity = numberOf byte (a + 2) 2;
+  entries = numberOf byte (a + 4) 4;
+  context = numberOf byte (a + 8) 4;
+  mask = numberOf byte (a + 12) 4;
+  base = numberOf byte (a + 16) 8;
+}
+
+-- page indexes 0, 1, 3 and 5, which are the bits of 0x2b
+unfoldable pub isPageIndex : ℕ → Bool
+isPageIndex k = (eqb k 0 || eqb k 1) || (eqb k 3 || eqb k 5)
+
+-- no bit of the mask's 32 lies outside 0x2b
+unfoldable pub insideMask : ℕ → Bool
+insideMask mask = allBelow 32 (λ k. isPageIndex k || eqb (mask / 2 ^ k % 2) 0)
+
+-- of the mask's bits up to k, that one alone is set
+abbrev pub isLowest : ℕ → ℕ → Bool
+isLowest mask k = eqb (mask % 2 ^ (k + 1)) (2 ^ k)
+
+-- "index not 0, 1, 3 or 5, mask 0 or outside 0x2b EBADPGSZ; associativity not 1, entries no power of two from 512 to
+-- 1,048,576 EBADTSB; context index not 0, page index not the lowest bit set in the mask EINVAL; base not a multiple of
+-- 16·entries EBADALIGN; 16·entries bytes not valid ENORADDR"
+unfoldable pub judgedTsb : (ℕ → ℕ → Bool) → Tsb → Ruling Tsb
+judgedTsb valid t =
+    (isPageIndex (t .index) && (not (eqb (t .mask) 0) && insideMask (t .mask))) or-refuse EBADPGSZ then
+    (eqb (t .associativity) 1 && powerFrom 512 12 (t .entries)) or-refuse EBADTSB then
+    (eqb (t .context) 0 && isLowest (t .mask) (t .index)) or-refuse EINVAL then
+    eqb (t .base % (16 * t .entries)) 0 or-refuse EBADALIGN then
+    valid (t .base) (16 * t .entries) or-refuse ENORADDR then
+    granted t
+
+-- "The first bad descriptor decides": the first n descriptors from the pointer on, in a list's places
+unfoldable pub descriptors : Sight → ℕ → ℕ → Ruling (List Tsb)
+descriptors sight pointer zero = granted (replicate tsbLimit blankTsb)
+descriptors sight pointer (suc n) =
+    descriptors sight pointer n grants λ list.
+    judgedTsb (sight .valid) (descriptorAt (sight .byte) (pointer + 32 * n)) grants λ t.
+    granted (set list n t)
+
+-- (ntsb, pointer): "ntsb 0 clears the list; above 4 EINVAL; pointer not on 8 EBADALIGN; 32·ntsb bytes not valid ENORADDR."
+-- "All descriptors are stored or none."
+unfoldable pub newTsbs : Sight → ℕ → ℕ → Ruling TsbList
+newTsbs sight ntsb pointer =
+    if eqb ntsb 0 then granted blankTsbs else
+    leb ntsb tsbLimit or-refuse EINVAL then
+    eqb (pointer % 8) 0 or-refuse EBADALIGN then
+    sight .valid pointer (32 * ntsb) or-refuse ENORADDR then
+    descriptors sight pointer ntsb grants λ list.
+    granted (record { count = ntsb; list = list })
+
+-- 0x20
+unfoldable pub mmu-tsb-ctx0 : Sight → Plant → ℕ → ℕ → ℕ → Ruling Outcome
+mmu-tsb-ctx0 sight plant cpu ntsb pointer =
+    newTsbs sight ntsb pointer grants λ tsbs.
+    done (withCtx0 plant cpu tsbs)
+
+-- 0x21
+unfoldable pub mmu-tsb-ctxnon0 : Sight → Plant → ℕ → ℕ → ℕ → Ruling Outcome
+mmu-tsb-ctxnon0 sight plant cpu ntsb pointer =
+    newTsbs sight ntsb pointer grants λ tsbs.
+    done (withCtxnon0 plant cpu tsbs)

@@ -1,0 +1,241 @@
+// Every type of the host's tables, events and answers: plain data, by value. What the numbers mean, and every rule about
+// them, stands in specs/, in the order of the paper.
+
+// The limits of the tables; specs/Limits.antt names the same ones for the rules.
+pub const GUESTS: usize = 4;
+
+pub const CPUS: usize = 8;
+
+pub const EXTENTS: usize = 4;
+
+pub const SOURCES: usize = 16;
+
+pub const QUEUES: usize = 4;
+
+pub const TSBS: usize = 4;
+
+// A real address, which a guest names, and an offset into the host's memory. Only an extent turns one into the other.
+pub struct Real(pub u64);
+
+pub struct Host(pub usize);
+
+// Where a real address lies on the host.
+pub enum Place {
+    Nowhere,
+    At(Host),
+}
+
+// A position in a list.
+pub enum Found {
+    Nothing,
+    At(usize),
+}
+
+// Real pages real .. real + count are host pages host .. host + count.
+pub struct Extent {
+    pub real: u32,
+    pub count: u16,
+    pub host: u16,
+}
+
+pub struct Extents {
+    pub count: u8,
+    pub list: [Extent; EXTENTS],
+}
+
+// The ring of a queue: its first real address, and in bytes its size and the places of its head and tail.
+pub struct Ring {
+    pub base: u64,
+    pub size: u16,
+    pub head: u16,
+    pub tail: u16,
+}
+
+// A queue record is either unset or a ring.
+pub enum QueueRecord {
+    Unset,
+    Set(Ring),
+}
+
+pub struct Queue {
+    pub held: QueueRecord,
+}
+
+// A TSB descriptor as it is kept: all of it but the reserved word.
+pub struct Tsb {
+    pub index: u16,
+    pub associativity: u16,
+    pub entries: u32,
+    pub context: u32,
+    pub mask: u32,
+    pub base: u64,
+}
+
+pub struct TsbList {
+    pub count: u8,
+    pub list: [Tsb; TSBS],
+}
+
+// Queues 0x3c to 0x3f, the TSB lists for context 0 and the other contexts, and the statistics address, 0 where there is none.
+pub struct Cpu {
+    pub queues: [Queue; QUEUES],
+    pub ctx0: TsbList,
+    pub ctxnon0: TsbList,
+    pub statistics: u64,
+}
+
+// The cpu that a source interrupts.
+pub enum Target {
+    Unset,
+    Cpu(u8),
+}
+
+// An interrupt source. enabled is 0 or 1; state is 0 idle, 1 received, 2 delivered.
+pub struct Source {
+    pub devhandle: u32,
+    pub devino: u8,
+    pub cookies: bool,
+    pub enabled: u8,
+    pub state: u8,
+    pub target: Target,
+    pub cookie: u64,
+}
+
+// The negotiated major number of each API group (0, 1, 2 and 0x200), 0 where none is. The minor is always 0.
+pub struct Versions {
+    pub sun4v: u8,
+    pub core: u8,
+    pub interrupt: u8,
+    pub statistics: u8,
+}
+
+// All that a guest's calls can read or change, extents aside. cpus and sources count what is there of cpu and source.
+pub struct Plant {
+    pub versions: Versions,
+    pub cpus: u8,
+    pub cpu: [Cpu; CPUS],
+    pub sources: u8,
+    pub source: [Source; SOURCES],
+}
+
+pub struct Guest {
+    pub extents: Extents,
+    pub plant: Plant,
+}
+
+// guests counts what is there of guest.
+pub struct Tables {
+    pub guests: u8,
+    pub guest: [Guest; GUESTS],
+}
+
+// A call: its arguments are 0 where a caller has none to give.
+pub struct Call {
+    pub guest: u64,
+    pub cpu: u64,
+    pub trap: u64,
+    pub function: u64,
+    pub arg0: u64,
+    pub arg1: u64,
+    pub arg2: u64,
+    pub arg3: u64,
+    pub arg4: u64,
+}
+
+pub struct HeadWrite {
+    pub guest: u64,
+    pub cpu: u64,
+    pub queue: u64,
+    pub value: u64,
+}
+
+pub struct Device {
+    pub devhandle: u64,
+    pub devino: u64,
+}
+
+pub struct LoadAt {
+    pub guest: u64,
+    pub address: u64,
+}
+
+pub struct StoreAt {
+    pub guest: u64,
+    pub address: u64,
+    pub value: u64,
+}
+
+pub enum Event {
+    Call(Call),
+    Head(HeadWrite),
+    Raise(Device),
+    Load(LoadAt),
+    Store(StoreAt),
+}
+
+// The API groups 0, 1, 2 and 0x200.
+pub enum Group {
+    Unknown,
+    Sun4v,
+    Core,
+    Interrupt,
+    Statistics,
+}
+
+// The calls, by the papers' names. Sysino are 0xa0 to 0xa6 and Cookie 0xa7 to 0xae, each with its function number.
+pub enum Function {
+    Unknown,
+    SetVersion,
+    GetVersion,
+    CpuQconf,
+    CpuQinfo,
+    CpuMyid,
+    CpuMondoSend,
+    MmuTsbCtx0,
+    MmuTsbCtxnon0,
+    MemScrub,
+    MemSync,
+    MmustatConf,
+    MmustatInfo,
+    Sysino(u64),
+    Cookie(u64),
+}
+
+// The guest that an event belongs to.
+pub enum Owner {
+    Nobody,
+    Guest(u64),
+}
+
+// Every refusal, by the papers' name where they have one.
+pub enum Refusal {
+    ENOCPU,
+    ENORADDR,
+    EBADPGSZ,
+    EBADTSB,
+    EINVAL,
+    EBADTRAP,
+    EBADALIGN,
+    EWOULDBLOCK,
+    ENOTSUPPORTED,
+    BadTables,
+    ShortMemory,
+    NoCaller,
+    NoSource,
+    ImageShort,
+    ImageBad,
+}
+
+// Done with no value, with value 1, or with values 1 and 2; or refused.
+pub enum Answer {
+    Done,
+    One(u64),
+    Two(u64, u64),
+    Refused(Refusal),
+}
+
+// What loading an image gives.
+pub struct Loaded {
+    pub answer: Answer,
+    pub tables: Tables,
+}
