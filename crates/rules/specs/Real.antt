@@ -19,7 +19,8 @@ high x = (x .real + x .count) * pageSize
 abbrev pub hostOffset : Extent → Real → Host
 hostOffset x a = record { 0 = x .host * pageSize + (a .0 - low x) }
 
--- all of the n bytes from a on lie in the extent; the numbers here are unbounded, so the sum cannot wrap
+-- all of the n bytes from a on lie in the extent. The numbers here are unbounded, so that the sum cannot wrap; an extent ends
+-- far below 2^64, so "a range that passes 2^64 is not" valid.
 abbrev pub holds : Extent → ℕ → ℕ → Bool
 holds x a n = leb (low x) a && leb (a + n) (high x)
 

@@ -67,7 +67,7 @@ unfoldable pub digits : List ℕ → Option (List ℕ)
 digits [] = some []
 digits (b ∷ bs) = consed (digitOf b) (digits bs)
 
--- the number of digits, most significant first, behind the number n
+-- the number that digits make, most significant first, written behind those of n
 unfoldable pub valueOf : ℕ → List ℕ → ℕ
 valueOf n [] = n
 valueOf n (d ∷ ds) = valueOf (n * 16 + d) ds
@@ -169,7 +169,7 @@ lineOf (word ∷ texts) =
 unfoldable pub parse : List ℕ → Line
 parse line = if leb (length line) 2048 then lineOf (pieces [] line) else bad
 
--- "all lower-case hex": a digit, and a number's k last digits but for leading zeros
+-- "all lower-case hex": a digit, and a number of at most k digits, "no leading zeros"
 abbrev pub digitByte : ℕ → ℕ
 digitByte d = if ltb d 10 then 0x30 + d else 0x57 + d
 
@@ -177,7 +177,7 @@ unfoldable pub hexOf : ℕ → ℕ → List ℕ
 hexOf zero n = []
 hexOf (suc k) n = if ltb n 16 then digitByte n ∷ [] else hexOf k (n / 16) ++ (digitByte (n % 16) ∷ [])
 
--- a number of 64 bits, "no leading zeros"
+-- a number of 64 bits
 abbrev pub hex : ℕ → List ℕ
 hex n = hexOf 16 n
 
