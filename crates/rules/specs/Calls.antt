@@ -76,15 +76,15 @@ unfoldable pub perform : Sight → Plant → Call → Function → Ruling Outcom
 perform sight plant c Function.Unknown = refused EBADTRAP
 perform sight plant c Function.SetVersion = set-version plant (c .arg0) (c .arg1)
 perform sight plant c Function.GetVersion = get-version plant (c .arg0)
-perform sight plant c Function.CpuQconf = cpu-qconf sight plant (c .cpu) (c .arg0) (c .arg1) (c .arg2)
+perform sight plant c Function.CpuQconf = cpu-qconf (sight .valid) plant (c .cpu) (c .arg0) (c .arg1) (c .arg2)
 perform sight plant c Function.CpuQinfo = cpu-qinfo plant (c .cpu) (c .arg0)
 perform sight plant c Function.CpuMyid = cpu-myid plant (c .cpu)
 perform sight plant c Function.CpuMondoSend = cpu-mondo-send sight plant (c .cpu) (c .arg0) (c .arg1) (c .arg2)
 perform sight plant c Function.MmuTsbCtx0 = mmu-tsb-ctx0 sight plant (c .cpu) (c .arg0) (c .arg1)
 perform sight plant c Function.MmuTsbCtxnon0 = mmu-tsb-ctxnon0 sight plant (c .cpu) (c .arg0) (c .arg1)
-perform sight plant c Function.MemScrub = mem-scrub sight plant (c .arg0) (c .arg1)
-perform sight plant c Function.MemSync = mem-sync sight plant (c .arg0) (c .arg1)
-perform sight plant c Function.MmustatConf = mmustat-conf sight plant (c .cpu) (c .arg0)
+perform sight plant c Function.MemScrub = mem-scrub (sight .valid) plant (c .arg0) (c .arg1)
+perform sight plant c Function.MemSync = mem-sync (sight .valid) plant (c .arg0) (c .arg1)
+perform sight plant c Function.MmustatConf = mmustat-conf (sight .valid) plant (c .cpu) (c .arg0)
 perform sight plant c Function.MmustatInfo = mmustat-info plant (c .cpu)
 perform sight plant c (Function.Sysino function) =
     if eqb function 0xa0

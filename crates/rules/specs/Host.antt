@@ -24,7 +24,7 @@ plantRule sight plant (Event.Call c) = ltb (c .cpu) (plant .cpus) or-refuse NoCa
 plantRule sight plant (Event.Head h) = ltb (h .cpu) (plant .cpus) or-refuse NoCaller then write-head plant (h .cpu) (h .queue) (h .value)
 plantRule sight plant (Event.Raise d) = raise plant (d .devhandle) (d .devino)
 plantRule sight plant (Event.Load l) = load-word sight plant (l .address)
-plantRule sight plant (Event.Store s) = store-word sight plant (s .address) (s .value)
+plantRule sight plant (Event.Store s) = store-word (sight .valid) plant (s .address) (s .value)
 
 -- "An event belongs to the guest it names, a raise to the guest that has the source; a raise that answers 104 belongs to none."
 abbrev pub isFound : Found → Bool

@@ -18,6 +18,21 @@ wholePages valid address length rest =
     valid address length or-refuse ENORADDR then
     rest
 
+-- 0x31: "zeroes the first min(length, 32,768) bytes and returns that number"
+unfoldable pub mem-scrub : (ℕ → ℕ → Bool) → Plant → ℕ → ℕ → Ruling Outcome
+mem-scrub valid plant address length =
+    wholePages valid address length
+    (granted
+    (record {
+      answer = One (min length 32768);
+      plant = plant;
+      writes = record { at = address; bytes = replicate (min length 32768) 0 } ∷ [];
+    }))
+
+-- 0x32: "returns length"
+unfoldable pub mem-sync : (ℕ → ℕ → Bool) → Plant → ℕ → ℕ → Ruling Outcome
+mem-sync valid plant address length = wholePages valid address length (says (One length) plant)
+
 -- one word, for store and load: "not on 8 EBADALIGN; not valid ENORADDR"
 unfoldable pub wholeWord : (ℕ → ℕ → Bool) → ℕ → Ruling Outcome → Ruling Outcome
 wholeWord valid address rest =
@@ -25,32 +40,14 @@ wholeWord valid address rest =
     valid address 8 or-refuse ENORADDR then
     rest
 
-module _ (sight : Sight) (plant : Plant) where
-  open Sight sight using (valid, byte)
+unfoldable pub store-word : (ℕ → ℕ → Bool) → Plant → ℕ → ℕ → Ruling Outcome
+store-word valid plant address value =
+    wholeWord valid address
+    (granted (record { answer = Done; plant = plant; writes = record { at = address; bytes = wordBytes value } ∷ [] }))
 
-  -- 0x31: "zeroes the first min(length, 32,768) bytes and returns that number"
-  unfoldable pub mem-scrub : ℕ → ℕ → Ruling Outcome
-  mem-scrub address length =
-      wholePages valid address length
-      (granted
-      (record {
-        answer = One (min length 32768);
-        plant = plant;
-        writes = record { at = address; bytes = replicate (min length 32768) 0 } ∷ [];
-      }))
-
-  -- 0x32: "returns length"
-  unfoldable pub mem-sync : ℕ → ℕ → Ruling Outcome
-  mem-sync address length = wholePages valid address length (says (One length) plant)
-
-  unfoldable pub store-word : ℕ → ℕ → Ruling Outcome
-  store-word address value =
-      wholeWord valid address
-      (granted (record { answer = Done; plant = plant; writes = record { at = address; bytes = wordBytes value } ∷ [] }))
-
-  -- "Load returns its word as value 1."
-  unfoldable pub load-word : ℕ → Ruling Outcome
-  load-word address = wholeWord valid address (says (One (numberOf byte address 8)) plant)
+-- "Load returns its word as value 1."
+unfoldable pub load-word : Sight → Plant → ℕ → Ruling Outcome
+load-word sight plant address = wholeWord (sight .valid) address (says (One (numberOf (sight .byte) address 8)) plant)
 
 -- "address 0, tried first, sets 0 and is accepted; not on 64 EBADALIGN, 512 bytes not valid ENORADDR"
 unfoldable pub newStatistics : (ℕ → ℕ → Bool) → ℕ → Ruling ℕ
@@ -66,8 +63,8 @@ setOrClear plant cpu (refused r) = says (Refused r) (withStatistics plant cpu 0)
 setOrClear plant cpu (granted address) = says (One (cpuAt plant cpu .statistics)) (withStatistics plant cpu address)
 
 -- 0x102 (address)
-unfoldable pub mmustat-conf : Sight → Plant → ℕ → ℕ → Ruling Outcome
-mmustat-conf sight plant cpu address = setOrClear plant cpu (newStatistics (sight .valid) address)
+unfoldable pub mmustat-conf : (ℕ → ℕ → Bool) → Plant → ℕ → ℕ → Ruling Outcome
+mmustat-conf valid plant cpu address = setOrClear plant cpu (newStatistics valid address)
 
 -- 0x103 "returns it"
 unfoldable pub mmustat-info : Plant → ℕ → Ruling Outcome

@@ -1,11 +1,9 @@
 -- "Queues and mondos": 0x14, 0x15, 0x16 and the head write (000, sections 7.2.6, 7.2.7 and 7.2.9).
-use mathlib.Core.Bool.{Bool, _&&_, not}
-use Prim.Native.Nat.{ℕ, _+_, _-_, _*_, _/_, _%_, _^_}
+use mathlib.Core.Bool.{Bool, true, false, _&&_, _||_, not}
+use Prim.Native.Nat.{ℕ, zero, suc, _+_, _-_, _*_, _/_, _%_}
 use lib.Dec.{leb, ltb, eqb}
 use Rattle.rules.specs.Types.{Ring, QueueRecord, Plant, Answer, One, Two, EINVAL, EBADALIGN, ENORADDR}
-use Rattle.rules.specs.Scan.{someBelow}
 use Rattle.rules.specs.Kept.{cpuAt, queueAt, withQueue, withHead}
-use Rattle.rules.specs.Real.{Sight}
 use Rattle.rules.specs.Rulings.{Ruling, refused, granted, Outcome, _or-refuse_then_, _grants_, if_then_else_, says, done}
 
 -- "queue not 0x3c to 0x3f": the cpu's four records, in that order
@@ -15,9 +13,10 @@ isQueue queue = leb 0x3c queue && leb queue 0x3f
 abbrev pub indexOf : ℕ → ℕ
 indexOf queue = queue - 0x3c
 
--- one of the k powers of two that are p, 2p, 4p ..
+-- one of the k numbers p, 2p, 4p .., which are powers of two if p is one
 unfoldable pub powerFrom : ℕ → ℕ → ℕ → Bool
-powerFrom p k n = someBelow k (λ i. eqb n (p * 2 ^ i))
+powerFrom p zero n = false
+powerFrom p (suc k) n = eqb n p || powerFrom (2 * p) k n
 
 -- "n not a power of two, below 2 or above 256 EINVAL; base not a multiple of 64n EBADALIGN; range not valid ENORADDR.
 -- Then head = tail = 0."
@@ -49,16 +48,13 @@ abbrev pub baseAndSize : QueueRecord → Answer
 baseAndSize QueueRecord.Unset = Two 0 0
 baseAndSize (QueueRecord.Set ring) = Two (ring .base) (ring .size / 64)
 
-module _ (sight : Sight) (plant : Plant) (cpu : ℕ) where
-  open Sight sight using (valid)
-
-  -- 0x14 (queue, base, n): "n = 0 unsets and ignores base"
-  unfoldable pub cpu-qconf : ℕ → ℕ → ℕ → Ruling Outcome
-  cpu-qconf queue base n =
-      isQueue queue or-refuse EINVAL then
-      if eqb n 0 then done (withQueue plant cpu (indexOf queue) QueueRecord.Unset) else
-      newRing valid base n grants λ ring.
-      done (withQueue plant cpu (indexOf queue) (QueueRecord.Set ring))
+-- 0x14 (queue, base, n): "n = 0 unsets and ignores base"
+unfoldable pub cpu-qconf : (ℕ → ℕ → Bool) → Plant → ℕ → ℕ → ℕ → ℕ → Ruling Outcome
+cpu-qconf valid plant cpu queue base n =
+    isQueue queue or-refuse EINVAL then
+    if eqb n 0 then done (withQueue plant cpu (indexOf queue) QueueRecord.Unset) else
+    newRing valid base n grants λ ring.
+    done (withQueue plant cpu (indexOf queue) (QueueRecord.Set ring))
 
 module _ (plant : Plant) (cpu : ℕ) where
   -- 0x15 (queue)
