@@ -1,0 +1,91 @@
+// A guest's memory by real address: each range is valid, so it is one run of host bytes.
+use crate::extents::start;
+use crate::host::copy64;
+use crate::host::number;
+use crate::host::write;
+use crate::host::zero;
+use rules::Extents;
+use rules::Real;
+ghost use mathlib.Core.Path.{_≡_};
+ghost use mathlib.Core.Bool.{true};
+ghost use Prim.Native.Nat.{_<_, _≤_, _^_};
+ghost use lib.ListN.{length, replicate};
+ghost use Rattle.rules.specs.Limits.{extentLimit};
+ghost use Rattle.rules.specs.Real.{valid, byteAt, numberOf, bytesFrom, apply};
+ghost use Rattle.memory.specs.Cells.{one};
+ghost use Rattle.memory.specs.Ready.{present, Ready};
+
+// The number that k bytes from a real address make.
+fn seen(e: Extents, mem: &[u8], real: Real, k: usize) -> u64
+    requires { ⌜ (e .count ≤ extentLimit) × (k ≤ 8) ⌝ }
+    requires { ⌜ Ready (present e) (length (now mem)) ⌝ }
+    requires { ⌜ valid (present e) (real .0) k ≡ true ⌝ }
+    ensures { λ r. ⌜ (r ≡ numberOf (byteAt (present e) (now (mem .entry))) (real .0) k) × (r < 256 ^ k) ⌝ }
+{
+    let h = start(e, real, k as u64);
+    let at = h.0;
+    number(mem, at, k)
+}
+
+pub fn number2(e: Extents, mem: &[u8], real: Real) -> u16
+    requires { ⌜ e .count ≤ extentLimit ⌝ }
+    requires { ⌜ Ready (present e) (length (now mem)) ⌝ }
+    requires { ⌜ valid (present e) (real .0) 2 ≡ true ⌝ }
+    ensures { λ r. ⌜ r ≡ numberOf (byteAt (present e) (now (mem .entry))) (real .0) 2 ⌝ }
+{
+    seen(e, mem, real, 2) as u16
+}
+
+pub fn number4(e: Extents, mem: &[u8], real: Real) -> u32
+    requires { ⌜ e .count ≤ extentLimit ⌝ }
+    requires { ⌜ Ready (present e) (length (now mem)) ⌝ }
+    requires { ⌜ valid (present e) (real .0) 4 ≡ true ⌝ }
+    ensures { λ r. ⌜ r ≡ numberOf (byteAt (present e) (now (mem .entry))) (real .0) 4 ⌝ }
+{
+    seen(e, mem, real, 4) as u32
+}
+
+pub fn number8(e: Extents, mem: &[u8], real: Real) -> u64
+    requires { ⌜ e .count ≤ extentLimit ⌝ }
+    requires { ⌜ Ready (present e) (length (now mem)) ⌝ }
+    requires { ⌜ valid (present e) (real .0) 8 ≡ true ⌝ }
+    ensures { λ r. ⌜ r ≡ numberOf (byteAt (present e) (now (mem .entry))) (real .0) 8 ⌝ }
+{
+    seen(e, mem, real, 8)
+}
+
+// The 64 bytes from a real address.
+pub fn bytes64(e: Extents, mem: &[u8], real: Real) -> [u8; 64]
+    requires { ⌜ e .count ≤ extentLimit ⌝ }
+    requires { ⌜ Ready (present e) (length (now mem)) ⌝ }
+    requires { ⌜ valid (present e) (real .0) 64 ≡ true ⌝ }
+    ensures { λ r. ⌜ r ≡ bytesFrom (byteAt (present e) (now (mem .entry))) (real .0) 64 ⌝ }
+{
+    let h = start(e, real, 64);
+    let at = h.0;
+    copy64(mem, at)
+}
+
+// Writes src from a real address on.
+pub fn write_at(e: Extents, mem: &mut [u8], real: Real, src: &[u8])
+    requires { ⌜ e .count ≤ extentLimit ⌝ }
+    requires { ⌜ Ready (present e) (length (now mem)) ⌝ }
+    requires { ⌜ valid (present e) (real .0) (length (now src)) ≡ true ⌝ }
+    ensures { λ _. ⌜ now (mem .exit) ≡ apply (present e) (now (mem .entry)) (one (real .0) (now (src .entry))) ⌝ }
+{
+    let h = start(e, real, src.len() as u64);
+    let at = h.0;
+    write(mem, at, src);
+}
+
+// Zeroes n bytes from a real address on.
+pub fn zero_at(e: Extents, mem: &mut [u8], real: Real, n: usize)
+    requires { ⌜ e .count ≤ extentLimit ⌝ }
+    requires { ⌜ Ready (present e) (length (now mem)) ⌝ }
+    requires { ⌜ valid (present e) (real .0) n ≡ true ⌝ }
+    ensures { λ _. ⌜ now (mem .exit) ≡ apply (present e) (now (mem .entry)) (one (real .0) (replicate n 0)) ⌝ }
+{
+    let h = start(e, real, n as u64);
+    let at = h.0;
+    zero(mem, at, n);
+}

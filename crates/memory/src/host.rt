@@ -1,0 +1,104 @@
+// The host's memory by offset: runs of bytes, and the big-endian numbers that they make.
+ghost use mathlib.Core.Path.{_≡_};
+ghost use Prim.Native.Nat.{_+_, _<_, _≤_, _^_};
+ghost use lib.ListN.{length, replicate};
+ghost use lib.Seq.{sets};
+ghost use Rattle.rules.specs.Real.{numberOf, wordBytes, bytesFrom};
+ghost use Rattle.memory.specs.Cells.{cell};
+
+// Copies src into mem from the offset at.
+pub fn write(mem: &mut [u8], at: usize, src: &[u8])
+    requires { ⌜ at + length (now src) ≤ length (now mem) ⌝ }
+    ensures { λ _. ⌜ now (mem .exit) ≡ sets (now (mem .entry)) at (now (src .entry)) ⌝ }
+{
+    let mut i = 0;
+    while i < src.len() {
+        mem[at + i] = src[i];
+        i += 1;
+    }
+}
+
+// Zeroes n bytes of mem from the offset at.
+pub fn zero(mem: &mut [u8], at: usize, n: usize)
+    requires { ⌜ at + n ≤ length (now mem) ⌝ }
+    ensures { λ _. ⌜ now (mem .exit) ≡ sets (now (mem .entry)) at (replicate n 0) ⌝ }
+{
+    let mut i = 0;
+    while i < n {
+        mem[at + i] = 0;
+        i += 1;
+    }
+}
+
+// A byte as a word, which says that it is below 256.
+fn wide(x: u8) -> u64
+    ensures { λ r. ⌜ (r ≡ x) × (r < 256) ⌝ }
+{
+    x as u64
+}
+
+// The number that k bytes from the offset at make.
+pub fn number(mem: &[u8], at: usize, k: usize) -> u64
+    requires { ⌜ k ≤ 8 ⌝ }
+    requires { ⌜ at + k ≤ length (now mem) ⌝ }
+    ensures { λ r. ⌜ (r ≡ numberOf (cell (now (mem .entry))) at k) × (r < 256 ^ k) ⌝ }
+{
+    let mut v = 0;
+    let mut i = 0;
+    while i < k {
+        v = v * 256 + wide(mem[at + i]);
+        i += 1;
+    }
+    v
+}
+
+pub fn read_half(mem: &[u8], at: usize) -> u16
+    requires { ⌜ at + 2 ≤ length (now mem) ⌝ }
+    ensures { λ r. ⌜ r ≡ numberOf (cell (now (mem .entry))) at 2 ⌝ }
+{
+    number(mem, at, 2) as u16
+}
+
+pub fn read_u32(mem: &[u8], at: usize) -> u32
+    requires { ⌜ at + 4 ≤ length (now mem) ⌝ }
+    ensures { λ r. ⌜ r ≡ numberOf (cell (now (mem .entry))) at 4 ⌝ }
+{
+    number(mem, at, 4) as u32
+}
+
+pub fn read_word(mem: &[u8], at: usize) -> u64
+    requires { ⌜ at + 8 ≤ length (now mem) ⌝ }
+    ensures { λ r. ⌜ r ≡ numberOf (cell (now (mem .entry))) at 8 ⌝ }
+{
+    number(mem, at, 8)
+}
+
+// The 64 bytes from the offset at.
+pub fn copy64(mem: &[u8], at: usize) -> [u8; 64]
+    requires { ⌜ at + 64 ≤ length (now mem) ⌝ }
+    ensures { λ r. ⌜ r ≡ bytesFrom (cell (now (mem .entry))) at 64 ⌝ }
+{
+    let mut out = [0u8; 64];
+    let mut i = 0;
+    while i < 64 {
+        out[i] = mem[at + i];
+        i += 1;
+    }
+    out
+}
+
+// The bytes of a word, most significant first.
+pub fn word_bytes(v: u64) -> [u8; 8]
+    ensures { λ r. ⌜ r ≡ wordBytes v ⌝ }
+{
+    [
+        (v / 0x100_0000_0000_0000 % 256) as u8,
+        (v / 0x1_0000_0000_0000 % 256) as u8,
+        (v / 0x100_0000_0000 % 256) as u8,
+        (v / 0x1_0000_0000 % 256) as u8,
+        (v / 0x100_0000 % 256) as u8,
+        (v / 0x1_0000 % 256) as u8,
+        (v / 0x100 % 256) as u8,
+        (v % 256) as u8,
+    ]
+}

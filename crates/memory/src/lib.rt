@@ -1,0 +1,23 @@
+// A guest's memory through its extents: which ranges are its own, where they lie on the host, and what is read and
+// written there.
+mod extents;
+mod guest;
+mod host;
+
+pub use extents::inside;
+pub use extents::locate;
+pub use extents::range_valid;
+pub use extents::through;
+pub use guest::bytes64;
+pub use guest::number2;
+pub use guest::number4;
+pub use guest::number8;
+pub use guest::write_at;
+pub use guest::zero_at;
+pub use host::copy64;
+pub use host::read_half;
+pub use host::read_u32;
+pub use host::read_word;
+pub use host::word_bytes;
+pub use host::write;
+pub use host::zero;

@@ -1,0 +1,5 @@
+pub mod Powers
+pub mod Masks
+pub mod Verdicts
+pub mod Told
+pub mod SoundLaws
