@@ -1,0 +1,71 @@
+-- A count's answers, and what each tells.
+use borrow.Author.Tests.{le-leb, lt-leb, leb-true}
+use mathlib.Core.Bool.{Bool, true, false, _&&_, and-false}
+use mathlib.Core.Path.{_≡_, refl}
+use mathlib.Core.List.{List}
+use Prim.Native.Nat.{ℕ, _+_, _*_, _<_, _≤_}
+use native.Mathlib.Omega.{arith}
+use lib.ListN.{length}
+use lib.Dec.{leb}
+use Rattle.rules.specs.declared.Refusal.{Refusal}
+use Rattle.rules.specs.declared.Refusal.the-variants.{ImageShort, ImageBad}
+use Rattle.rules.specs.Bits.{fieldAt, reaches}
+use Rattle.rules.specs.Rulings.{Ruling, refused, granted, _or-refuse_then_}
+use Rattle.rules.specs.Image.{countAt}
+use Rattle.bits.specs.declared.Field.{Field}
+use Rattle.bits.specs.declared.Field.the-variants.{Value, Missing}
+use Rattle.bits.specs.Field.{fieldOf}
+use Rattle.bits.proofs.FieldLaws.{missing-tells, value-tells}
+use Rattle.image.specs.declared.guest.Count.{Count}
+use Rattle.image.specs.Answers.{countAs}
+
+module _ (s : List ℕ) (at n lo hi : ℕ) (f : Field) (e : f ≡ fieldOf s at n) where
+  pub count-short : n ≤ 28 → f ≡ Missing → Count.Refused ImageShort ≡ countAs (countAt s at n lo hi)
+  unfolding countAt countAs
+  count-short h m = rw (lt-leb (at + n) (8 * length s) (missing-tells s at n f h e m))
+
+  module _ (v : ℕ) (m : f ≡ Value v) where
+    pub count-low : v < lo → Count.Refused ImageBad ≡ countAs (countAt s at n lo hi)
+    unfolding countAt countAs
+    count-low l =
+        let t = value-tells s at n f v e m in
+        rw (le-leb (at + n) (8 * length s) (t .0), ← t .1, lt-leb lo v l)
+
+    pub count-high : hi < v → Count.Refused ImageBad ≡ countAs (countAt s at n lo hi)
+    unfolding countAt countAs
+    count-high l =
+        let t = value-tells s at n f v e m in
+        rw (le-leb (at + n) (8 * length s) (t .0), ← t .1, lt-leb v hi l, and-false)
+
+    pub count-is : lo ≤ v → v ≤ hi → Count.Is v ≡ countAs (countAt s at n lo hi)
+    unfolding countAt countAs
+    count-is l h =
+        let t = value-tells s at n f v e m in
+        rw (le-leb (at + n) (8 * length s) (t .0), ← t .1, le-leb lo v l, le-leb v hi h)
+
+-- what an answer tells of the ruling
+pub is-tells : (c : Count) (m : Ruling ℕ) (v : ℕ) → c ≡ countAs m → c ≡ Count.Is v → m ≡ granted v
+unfolding countAs
+is-tells c (granted w) v e q = cc
+is-tells c (refused r) v e q = cc
+
+pub refused-tells : (c : Count) (m : Ruling ℕ) (why : Refusal) → c ≡ countAs m → c ≡ Count.Refused why → m ≡ refused why
+unfolding countAs
+refused-tells c (granted w) why e q = cc
+refused-tells c (refused r) why e q = cc
+
+-- a count that is granted is within its limits
+within : (t u w : Bool) (n v : ℕ) → (t or-refuse ImageShort then (u && w) or-refuse ImageBad then granted n) ≡ granted v → (w ≡ true) × (n ≡ v)
+within true true true n v e = (refl, cc)
+within true true false n v e = (cc, cc)
+within true false w n v e = (cc, cc)
+within false u w n v e = (cc, cc)
+
+pub count-most : (s : List ℕ) (at n lo hi v : ℕ) → countAt s at n lo hi ≡ granted v → v ≤ hi
+unfolding countAt
+count-most s at n lo hi v e =
+    let w = within (reaches s (at + n)) (leb lo (fieldAt s at n)) (leb (fieldAt s at n) hi) (fieldAt s at n) v e in
+    omega (arith, leb-true (fieldAt s at n) hi (w .0), w .1)
+
+pub is-most : (s : List ℕ) (at n lo hi : ℕ) (c : Count) (v : ℕ) → c ≡ countAs (countAt s at n lo hi) → c ≡ Count.Is v → v ≤ hi
+is-most s at n lo hi c v e q = count-most s at n lo hi v (is-tells c (countAt s at n lo hi) v e q)

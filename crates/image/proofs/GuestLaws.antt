@@ -1,0 +1,122 @@
+-- A guest's answers, and what each tells.
+use borrow.Author.Tests.{le-leb, lt-leb}
+use mathlib.Core.Bool.{Bool, true, false}
+use mathlib.Core.Path.{_≡_, refl, sym, ap, _∙_}
+use mathlib.Core.List.{List}
+use Prim.Native.Nat.{ℕ, _+_, _*_, _/_, _<_, _≤_}
+use native.Mathlib.Omega.{arith}
+use lib.ListN.{length, replicate}
+use Rattle.rules.specs.declared.Cpu.{Cpu}
+use Rattle.rules.specs.declared.Extent.{Extent}
+use Rattle.rules.specs.declared.Source.{Source}
+use Rattle.rules.specs.declared.Versions.{Versions}
+use Rattle.rules.specs.declared.Guest.{Guest}
+use Rattle.rules.specs.declared.Refusal.{Refusal}
+use Rattle.rules.specs.declared.Refusal.the-variants.{ImageShort}
+use Rattle.rules.specs.Limits.{cpuLimit, extentLimit, sourceLimit}
+use Rattle.rules.specs.Kept.{blankExtent, blankSource, blankCpu, blankGuest, noVersions}
+use Rattle.rules.specs.Bits.{reaches}
+use Rattle.rules.specs.Rulings.{Ruling, refused, granted, _or-refuse_then_, _grants_}
+use Rattle.rules.specs.Image.{countAt, readExtent, readSource, extentBits, sourceBits, filled, readLists, readGuest, behind}
+use Rattle.image.specs.declared.guest.Count.{Count}
+use Rattle.image.specs.declared.guest.Verdict.{Verdict}
+use Rattle.image.specs.declared.guest.GuestRead.{GuestRead}
+use Rattle.image.specs.Answers.{verdictOf, grantedOr, countAs, guestAs}
+use Rattle.image.proofs.CountLaws.{is-tells, refused-tells, count-most}
+
+-- the lists
+module _ (s : List ℕ) (at cpus extents sources end : ℕ) (p : end ≡ at + extentBits * extents + sourceBits * sources) where
+  pub lists-short : (r : GuestRead) → r ≡ guestAs (refused ImageShort) → length s < (end + 7) / 8 → r ≡ guestAs (readLists s at cpus extents sources)
+  unfolding readLists
+  lists-short r n h =
+      let l : 8 * length s < at + extentBits * extents + sourceBits * sources = omega arith in
+      rw (lt-leb (at + extentBits * extents + sourceBits * sources) (8 * length s) l) n
+
+  pub lists-read : (x : List Extent) (y : List Source) (v : Versions) (c : List Cpu)
+      → x ≡ filled extentLimit blankExtent (λ i. readExtent s (at + extentBits * i)) extents
+      → y ≡ filled sourceLimit blankSource (λ i. readSource s (at + extentBits * extents + sourceBits * i)) sources
+      → v ≡ noVersions → c ≡ replicate cpuLimit blankCpu → (end + 7) / 8 ≤ length s
+      → record {
+        verdict = Verdict.Granted;
+        guest = record {
+          extents = record { count = extents; list = x };
+          plant = record { versions = v; cpus = cpus; cpu = c; sources = sources; source = y };
+        };
+      } ≡ guestAs (readLists s at cpus extents sources)
+  unfolding readLists guestAs
+  lists-read x y v c a b d e h =
+      let l : at + extentBits * extents + sourceBits * sources ≤ 8 * length s = omega arith in
+      rw (le-leb (at + extentBits * extents + sourceBits * sources) (8 * length s) l, a, b, d, e)
+
+-- the three counts, and the lists behind them
+module _ (s : List ℕ) (at : ℕ) (r : GuestRead) (a : Count) (p : a ≡ countAs (countAt s at 4 1 cpuLimit)) where
+  pub guest-cpus : (why : Refusal) → r ≡ guestAs (refused why) → a ≡ Count.Refused why → r ≡ guestAs (readGuest s at)
+  unfolding readGuest
+  guest-cpus why n m = rw (refused-tells a (countAt s at 4 1 cpuLimit) why p m) n
+
+  module _ (x : ℕ) (m₁ : a ≡ Count.Is x) (b : Count) (q : b ≡ countAs (countAt s (at + 4) 3 1 extentLimit)) where
+    pub guest-extents : (why : Refusal) → r ≡ guestAs (refused why) → b ≡ Count.Refused why → r ≡ guestAs (readGuest s at)
+    unfolding readGuest
+    guest-extents why n m = rw (is-tells a (countAt s at 4 1 cpuLimit) x p m₁, refused-tells b (countAt s (at + 4) 3 1 extentLimit) why q m) n
+
+    module _ (y : ℕ) (m₂ : b ≡ Count.Is y) (c : Count) (t : c ≡ countAs (countAt s (at + 7) 5 0 sourceLimit)) where
+      pub guest-sources : (why : Refusal) → r ≡ guestAs (refused why) → c ≡ Count.Refused why → r ≡ guestAs (readGuest s at)
+      unfolding readGuest
+      guest-sources why n m =
+          rw (is-tells a (countAt s at 4 1 cpuLimit) x p m₁, is-tells b (countAt s (at + 4) 3 1 extentLimit) y q m₂, refused-tells c (countAt s (at + 7) 5 0 sourceLimit) why t m) n
+
+      pub guest-lists : (z : ℕ) → c ≡ Count.Is z → r ≡ guestAs (readLists s (at + 12) x y z) → r ≡ guestAs (readGuest s at)
+      unfolding readGuest
+      guest-lists z m n =
+          rw (is-tells a (countAt s at 4 1 cpuLimit) x p m₁, is-tells b (countAt s (at + 4) 3 1 extentLimit) y q m₂, is-tells c (countAt s (at + 7) 5 0 sourceLimit) z t m) n
+
+-- what a verdict tells of the ruling, for a guest as for the whole image
+pub refused-says : {A : Type 0} (m : Ruling A) (v : Verdict) (why : Refusal) → v ≡ verdictOf m → v ≡ Verdict.Refused why → m ≡ refused why
+refused-says (granted a) v why e t = cc
+refused-says (refused r) v why e t = cc
+
+pub granted-says : {A : Type 0} (m : Ruling A) (v : Verdict) (other : A) → v ≡ verdictOf m → v ≡ Verdict.Granted → m ≡ granted (grantedOr other m)
+granted-says (granted a) v other e t = refl
+granted-says (refused r) v other e t = cc
+
+module _ (r : GuestRead) (m : Ruling Guest) (e : r ≡ guestAs m) where
+  pub guest-refused : (why : Refusal) → r .verdict ≡ Verdict.Refused why → m ≡ refused why
+  unfolding guestAs
+  guest-refused why t = refused-says m (r .verdict) why (ap (λ (x : GuestRead). x .verdict) e) t
+
+  pub guest-granted : r .verdict ≡ Verdict.Granted → m ≡ granted (r .guest)
+  unfolding guestAs
+  guest-granted t = granted-says m (r .verdict) blankGuest (ap (λ (x : GuestRead). x .verdict) e) t ∙ ap (λ (x : GuestRead). granted (x .guest)) (sym e)
+
+-- what is granted at the end was granted on the way
+pub grants-tells : {A B : Type 0} (m : Ruling A) (f : A → Ruling B) (b : B) → (m grants f) ≡ granted b → (a : A) × ((m ≡ granted a) × (f a ≡ granted b))
+grants-tells (granted a) f b e = (a, (refl, e))
+grants-tells (refused r) f b e = absurd (let z : _≡_ {A = ℕ} 0 1 = cc in omega arith)
+
+-- a guest that was read has no more extents and sources than it may have
+listed : (t : Bool) (g h : Guest) → (t or-refuse ImageShort then granted h) ≡ granted g → h ≡ g
+listed true g h e = cc
+listed false g h e = cc
+
+lists-counts : (s : List ℕ) (at x y z : ℕ) (g : Guest) → readLists s at x y z ≡ granted g → (g .extents .count ≡ y) × (g .plant .sources ≡ z)
+unfolding readLists
+lists-counts s at x y z g e =
+    let w = listed (reaches s (at + extentBits * y + sourceBits * z)) g _ e in
+    (sym (ap (λ (h : Guest). h .extents .count) w), sym (ap (λ (h : Guest). h .plant .sources) w))
+
+guest-small : (s : List ℕ) (at : ℕ) (g : Guest) → readGuest s at ≡ granted g → (g .extents .count ≤ extentLimit) × (g .plant .sources ≤ sourceLimit)
+unfolding readGuest
+guest-small s at g e =
+    let u = grants-tells (countAt s at 4 1 cpuLimit) _ g e in
+    let v = grants-tells (countAt s (at + 4) 3 1 extentLimit) _ g (u .1 .1) in
+    let w = grants-tells (countAt s (at + 7) 5 0 sourceLimit) _ g (v .1 .1) in
+    let l = lists-counts s (at + 12) (u .0) (v .0) (w .0) g (w .1 .1) in
+    (omega (arith, count-most s (at + 4) 3 1 extentLimit (v .0) (v .1 .0)), omega (arith, count-most s (at + 7) 5 0 sourceLimit (w .0) (w .1 .0)))
+
+-- so its bits are at most these
+abbrev pub guestBits : ℕ
+guestBits = 12 + extentBits * extentLimit + sourceBits * sourceLimit
+
+pub behind-most : (s : List ℕ) (at : ℕ) (r : GuestRead) → r ≡ guestAs (readGuest s at) → r .verdict ≡ Verdict.Granted
+    → (b i : ℕ) → b ≡ behind at (r .guest) → at ≤ 8 + guestBits * i → b ≤ 8 + guestBits * (i + 1)
+behind-most s at r e t b i q h = omega (arith, guest-small s at (r .guest) (guest-granted r (readGuest s at) e t))

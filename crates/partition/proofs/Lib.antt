@@ -1,0 +1,5 @@
+pub mod Counts
+pub mod Ordered
+pub mod Filled
+pub mod Places
+pub mod Pairs

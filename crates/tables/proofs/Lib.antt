@@ -1,0 +1,5 @@
+pub mod Every
+pub mod Sources
+pub mod SettingLaws
+pub mod SoundTables
+pub mod KeepLaws

@@ -1,0 +1,88 @@
+// What the tables must hold of the small records: "the image's rules", "versions as negotiable", and the rules of a source.
+ghost use mathlib.Core.Path.{_≡_};
+ghost use Prim.Native.Nat.{_<_};
+ghost use Rattle.rules.specs.Tables.{versionsRight, targetRight, cookieRight, enabledRight, extentsKeep};
+ghost use Rattle.tables.specs.Lists.{placeKeeps, listKeeps};
+ghost use Rattle.tables.specs.Sources.{sourceRightUnder};
+use crate::blank::extent_blank;
+use partition::ascend;
+use partition::extent_right;
+use rules::EXTENTS;
+use rules::Extent;
+use rules::Extents;
+use rules::Source;
+use rules::Target;
+use rules::Versions;
+
+// Devhandles have 28 bits and devinos 7.
+const DEVHANDLES: u32 = 0x1000_0000;
+
+const DEVINOS: u8 = 128;
+
+pub fn versions_right(v: Versions) -> bool
+    ensures { λ r. ⌜ r ≡ versionsRight v ⌝ }
+{
+    ((v.sun4v <= 1) & (v.core <= 1)) & ((v.interrupt <= 2) & (v.statistics <= 1))
+}
+
+pub fn target_right(cpus: u8, target: Target) -> bool
+    ensures { λ r. ⌜ r ≡ targetRight cpus target ⌝ }
+{
+    match target {
+        Target::Unset => true,
+        Target::Cpu(c) => c < cpus,
+    }
+}
+
+// major is the negotiated version of group 2.
+pub fn cookie_right(major: u8, s: Source) -> bool
+    ensures { λ r. ⌜ r ≡ cookieRight major s ⌝ }
+{
+    (s.cookie == 0) | ((2047 < s.cookie) & ((major == 2) & s.cookies))
+}
+
+pub fn enabled_right(major: u8, s: Source) -> bool
+    ensures { λ r. ⌜ r ≡ enabledRight major s ⌝ }
+{
+    (s.enabled == 0) | !((major == 0) | ((major == 2) & (s.cookie == 0)))
+}
+
+pub fn source_right(cpus: u8, major: u8, s: Source) -> bool
+    ensures { λ r. ⌜ r ≡ sourceRightUnder cpus major s ⌝ }
+{
+    let target = s.target;
+    ((s.devhandle < DEVHANDLES) & (s.devino < DEVINOS))
+        & (((s.enabled <= 1) & (s.state <= 2))
+            & (target_right(cpus, target) & (cookie_right(major, s) & enabled_right(major, s))))
+}
+
+// A place of the list: an extent that is there is right, and any other is blank.
+fn place_keeps(there: bool, x: Extent) -> bool
+    ensures { λ r. ⌜ r ≡ placeKeeps there x ⌝ }
+{
+    if there {
+        extent_right(x)
+    } else {
+        extent_blank(x)
+    }
+}
+
+fn list_keeps(e: Extents) -> bool
+    ensures { λ r. ⌜ r ≡ listKeeps e ⌝ }
+{
+    let count = e.count as usize;
+    let list = e.list;
+    let mut keep = count <= EXTENTS;
+    let mut i = 0;
+    while i < EXTENTS {
+        keep = keep & place_keeps(i < count, list[i]);
+        i += 1;
+    }
+    keep
+}
+
+pub fn extents_keep(e: Extents) -> bool
+    ensures { λ r. ⌜ r ≡ extentsKeep e ⌝ }
+{
+    (1 <= e.count) & (list_keeps(e) & ascend(e))
+}
