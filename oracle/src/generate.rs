@@ -1,0 +1,533 @@
+//! Random sessions, the same for the same seed.
+//!
+//! The generator follows its own session with a host, so that it can aim at
+//! the bounds of the state that the session has reached.
+
+mod malformed;
+mod memory_steps;
+mod partition;
+mod queue_steps;
+mod random;
+mod source_steps;
+
+use crate::model::Host;
+use crate::session;
+use crate::tables::{Guest, HostOffset, RealAddress};
+use partition::Partition;
+use random::Random;
+use std::io::{self, Write};
+
+/// Numbers that sit at the edges of some width or limit.
+const EDGE_NUMBERS: [u64; 24] = [
+    0,
+    1,
+    2,
+    3,
+    4,
+    5,
+    7,
+    8,
+    16,
+    63,
+    64,
+    65,
+    0x3c,
+    0x80,
+    0x100,
+    0x200,
+    0x2000,
+    0xffff,
+    1 << 16,
+    1 << 28,
+    1 << 32,
+    1 << 63,
+    u64::MAX - 7,
+    u64::MAX,
+];
+
+type Step = fn(&mut Generator);
+
+/// What happens on a sound partition, and how often.
+const STEPS: [(u64, Step); 16] = [
+    (7, Generator::mondo_step),
+    (14, Generator::head_step),
+    (6, Generator::configure_step),
+    (3, Generator::queue_information_step),
+    (1, Generator::cpuid_step),
+    (16, Generator::source_step),
+    (18, Generator::raise_step),
+    (3, Generator::tsb_step),
+    (3, Generator::statistics_step),
+    (2, Generator::scrub_step),
+    (12, Generator::word_step),
+    (2, Generator::sweep_step),
+    (3, Generator::version_step),
+    (3, Generator::unknown_step),
+    (2, Generator::any_call_step),
+    (5, Generator::malformed_step),
+];
+
+pub fn write_session(seed: u64, lines: u64, output: &mut impl Write) -> io::Result<()> {
+    let mut generator = Generator::new(seed, lines);
+    while generator.lines_left > 0 {
+        generator.era();
+        if generator.lines_left == 0 {
+            generator.end();
+        }
+        output.write_all(&generator.text)?;
+        generator.text.clear();
+    }
+    output.flush()
+}
+
+struct Generator {
+    random: Random,
+    host: Host,
+    lines_left: u64,
+    text: Vec<u8>,
+    /// Chosen more often than the others, so that its rings fill.
+    favourite: (usize, usize),
+}
+
+impl Generator {
+    fn new(seed: u64, lines: u64) -> Generator {
+        Generator {
+            random: Random::new(seed),
+            host: Host::new(),
+            lines_left: lines,
+            text: Vec::new(),
+            favourite: (0, 0),
+        }
+    }
+
+    /// Some refused images, then a sound one and a long run of events on it.
+    fn era(&mut self) {
+        for _ in 0..self.random.below(10) {
+            self.damaged_image();
+            self.blind_events(5);
+        }
+        if self.random.one_in(3) {
+            let partition = Partition::anywhere(&mut self.random);
+            self.image(&partition.pack());
+            self.blind_events(20);
+        }
+        self.sound_image();
+        self.prepare();
+        let length = self.random.pick(&[50, 100, 200, 400, 1000, 2000]);
+        for _ in 0..length {
+            if self.lines_left == 0 {
+                break;
+            }
+            self.step();
+        }
+    }
+
+    /// The last line may end without a line feed, unless it is empty.
+    fn end(&mut self) {
+        let empty = self.text.len() < 2 || self.text.ends_with(b"\n\n");
+        if !empty && self.random.one_in(2) {
+            self.text.pop();
+        }
+    }
+
+    fn step(&mut self) {
+        let total = STEPS.iter().map(|(weight, _)| weight).sum();
+        let mut ticket = self.random.below(total);
+        for (weight, step) in STEPS {
+            if ticket < weight {
+                return step(self);
+            }
+            ticket -= weight;
+        }
+    }
+
+    // Lines.
+
+    fn emit(&mut self, line: &[u8]) {
+        if self.lines_left == 0 {
+            return;
+        }
+        self.lines_left -= 1;
+        session::answer_line(&mut self.host, line, &mut Vec::new());
+        self.text.extend_from_slice(line);
+        self.text.push(b'\n');
+    }
+
+    fn line(&mut self, word: &str, fields: &[u64]) -> Vec<u8> {
+        let mut line = word.as_bytes().to_vec();
+        for &field in fields {
+            line.push(b' ');
+            let digits = self.spell(field);
+            line.extend_from_slice(digits.as_bytes());
+        }
+        line
+    }
+
+    /// Hex of either case, now and then with leading zeros.
+    fn spell(&mut self, number: u64) -> String {
+        let width = if self.random.one_in(30) {
+            1 + self.random.index(16)
+        } else {
+            1
+        };
+        if self.random.one_in(8) {
+            format!("{number:0width$X}")
+        } else {
+            format!("{number:0width$x}")
+        }
+    }
+
+    fn event(&mut self, word: &str, fields: &[u64]) {
+        let line = self.line(word, fields);
+        self.emit(&line);
+    }
+
+    fn load(&mut self, guest: usize, address: u64) {
+        let guest = self.guest_number(guest);
+        self.event("load", &[guest, address]);
+    }
+
+    fn store(&mut self, guest: usize, address: u64, value: u64) {
+        let guest = self.guest_number(guest);
+        self.event("store", &[guest, address, value]);
+    }
+
+    fn call(&mut self, who: (usize, usize), function: u64, arguments: &[u64]) {
+        self.call_trap(who, 0x80, function, arguments);
+    }
+
+    fn call_trap(&mut self, who: (usize, usize), trap: u64, function: u64, arguments: &[u64]) {
+        let mut fields = vec![
+            self.guest_number(who.0),
+            self.cpu_number(who),
+            trap,
+            function,
+        ];
+        fields.extend_from_slice(arguments);
+        match self.random.below(24) {
+            0..=7 => drop_zeros(&mut fields),
+            8 => fields.truncate(4 + self.random.index(arguments.len() + 1)),
+            9..=12 => self.add_ignored(&mut fields),
+            _ => (),
+        }
+        self.event("call", &fields);
+    }
+
+    /// Arguments that the function does not take.
+    fn add_ignored(&mut self, fields: &mut Vec<u64>) {
+        let length = fields.len() + self.random.index(10 - fields.len());
+        while fields.len() < length {
+            fields.push(self.edge_number());
+        }
+    }
+
+    // Images.
+
+    fn image(&mut self, image: &[u8]) {
+        let digits: String = image.iter().map(|byte| format!("{byte:02x}")).collect();
+        let mut line = b"image ".to_vec();
+        let style = self.random.below(4);
+        for (place, digit) in digits.bytes().enumerate() {
+            let space = match style {
+                0 => place % 2 == 0,
+                1 => self.random.one_in(5),
+                _ => false,
+            };
+            if space {
+                line.push(b' ');
+            }
+            line.push(if style == 2 {
+                digit.to_ascii_uppercase()
+            } else {
+                digit
+            });
+        }
+        if self.random.one_in(10) {
+            line = malformed::padded(&line, b' ', session::LINE_LIMIT);
+        }
+        self.emit(&line);
+    }
+
+    fn sound_image(&mut self) {
+        let partition = Partition::in_memory(&mut self.random);
+        self.image(&partition.pack());
+        let guest = self.random.index(self.host.tables.guests.len());
+        let cpus = self
+            .host
+            .tables
+            .guests
+            .get(guest)
+            .map_or(0, |g| g.cpus.len());
+        self.favourite = (guest, self.random.index(cpus));
+    }
+
+    fn damaged_image(&mut self) {
+        let partition = match self.random.below(2) {
+            0 => Partition::in_memory(&mut self.random),
+            _ => Partition::anywhere(&mut self.random),
+        };
+        let image = match self.random.below(3) {
+            0 => {
+                let mut image = partition.pack();
+                partition::spoil_bytes(&mut image, &mut self.random);
+                image
+            }
+            1 if self.random.one_in(3) => partition::stub(&mut self.random),
+            _ => partition.damaged(&mut self.random),
+        };
+        self.image(&image);
+    }
+
+    /// Events that do not look at the tables: there may be no guest, or its
+    /// memory may not be lent.
+    fn blind_events(&mut self, most: u64) {
+        for _ in 0..self.random.below(most) {
+            let guest = self.random.pick(&[0, 0, 0, 1, 2, 3, 4, u64::MAX]);
+            let cpuid = self.random.pick(&[0, 0, 1, 8]);
+            match self.random.below(7) {
+                0 => self.event("call", &[guest, cpuid, 0xff, 0, 1, 1, 0]),
+                1 => self.event("call", &[guest, cpuid, 0x80, 0x16]),
+                2 => self.event("head", &[guest, cpuid, 0x3c, 0]),
+                3 => self.event("raise", &[0x100, 5]),
+                4 => self.event("load", &[guest, 0]),
+                5 => self.event("store", &[guest, 8, 0x1234]),
+                _ if self.host.tables.guests.is_empty() => self.event("raise", &[0, 0]),
+                _ => drop(self.raise(0)),
+            }
+        }
+    }
+
+    // Who.
+
+    fn guest(&self, guest: usize) -> &Guest {
+        &self.host.tables.guests[guest]
+    }
+
+    /// A guest and a cpu that there are.
+    fn someone(&mut self) -> (usize, usize) {
+        if self.random.one_in(2) {
+            return self.favourite;
+        }
+        let guest = self.random.index(self.host.tables.guests.len());
+        (guest, self.random.index(self.guest(guest).cpus.len()))
+    }
+
+    /// The same, rather with sources than without.
+    fn someone_with_sources(&mut self) -> (usize, usize) {
+        let mut who = self.someone();
+        for _ in 0..3 {
+            if self.guest(who.0).sources.is_empty() {
+                who = self.someone();
+            }
+        }
+        who
+    }
+
+    /// As asked for, but now and then no such guest.
+    fn guest_number(&mut self, guest: usize) -> u64 {
+        let guest = guest as u64;
+        if !self.random.one_in(120) {
+            return guest;
+        }
+        let count = self.host.tables.guests.len() as u64;
+        self.random
+            .pick(&[count, 4, 1 << 32, guest | 1 << 32, guest | 1 << 8, u64::MAX])
+    }
+
+    fn cpu_number(&mut self, (guest, cpu): (usize, usize)) -> u64 {
+        let cpu = cpu as u64;
+        if !self.random.one_in(120) {
+            return cpu;
+        }
+        let count = self.guest(guest).cpus.len() as u64;
+        self.random
+            .pick(&[count, 8, 1 << 32, cpu | 1 << 32, cpu | 1 << 8, u64::MAX])
+    }
+
+    // Numbers and addresses.
+
+    fn edge_number(&mut self) -> u64 {
+        match self.random.below(4) {
+            0 => self.random.next(),
+            _ => self.random.pick(&EDGE_NUMBERS),
+        }
+    }
+
+    /// The first address of one of the guest's extents, and its size.
+    fn some_extent(&mut self, guest: usize) -> (u64, u64) {
+        let place = self.random.index(self.guest(guest).extents.len());
+        let extent = self.guest(guest).extents[place];
+        (extent.real_start(), extent.size())
+    }
+
+    /// On the boundary, inside an extent.
+    fn inside(&mut self, guest: usize, boundary: u64) -> u64 {
+        let (start, size) = self.some_extent(guest);
+        start + self.random.below(size / boundary) * boundary
+    }
+
+    /// Around the bounds of an extent, or near the end of all addresses.
+    fn around(&mut self, guest: usize) -> u64 {
+        const DISTANCES: [u64; 12] = [0, 0, 1, 2, 8, 56, 64, 128, 448, 512, 8192, 16384];
+        let (start, size) = self.some_extent(guest);
+        let distance = self.random.pick(&DISTANCES);
+        match self.random.below(8) {
+            0 => start + distance,
+            1 => start.wrapping_sub(distance),
+            2 => start + size + distance,
+            3..=5 => (start + size).wrapping_sub(distance),
+            6 => distance.wrapping_neg(),
+            _ => self.edge_number() << self.random.below(14),
+        }
+    }
+
+    /// Writes bytes by stores of whole words, keeping what is beside them.
+    fn write(&mut self, guest: usize, address: u64, bytes: &[u8]) {
+        let first = address - address % 8;
+        let behind = address.saturating_add(bytes.len() as u64);
+        for word in (first..behind).step_by(8) {
+            let Some(HostOffset(at)) = self.guest(guest).place(RealAddress(word), 8) else {
+                return;
+            };
+            let mut content = [0; 8];
+            content.copy_from_slice(&self.host.memory[at..at + 8]);
+            for (byte, place) in content.iter_mut().zip(word..) {
+                let new = place
+                    .checked_sub(address)
+                    .and_then(|i| bytes.get(i as usize));
+                *byte = *new.unwrap_or(byte);
+            }
+            self.event("store", &[guest as u64, word, u64::from_be_bytes(content)]);
+        }
+    }
+
+    // Versions, unknown calls and malformed lines.
+
+    /// Most guests negotiate most groups, in any order; then rings and sources.
+    fn prepare(&mut self) {
+        for guest in 0..self.host.tables.guests.len() {
+            let mut groups = [(0, 1), (1, 1), (2, self.random.pick(&[1, 2])), (0x200, 1)];
+            self.random.shuffle(&mut groups);
+            for (group, major) in groups {
+                if self.random.one_in(12) {
+                    continue;
+                }
+                let cpu = self.random.index(self.guest(guest).cpus.len());
+                self.call_trap((guest, cpu), 0xff, 0, &[group, major, 0]);
+            }
+            self.prepare_rings(guest);
+            self.prepare_sources(guest);
+        }
+    }
+
+    fn version_step(&mut self) {
+        let who = self.someone();
+        let group = match self.random.below(8) {
+            0 => self.random.pick(&[
+                3,
+                0x100,
+                0x201,
+                0x202,
+                0x300,
+                1 << 32,
+                1 << 32 | 1,
+                u64::MAX,
+            ]),
+            _ => self.random.pick(&[0, 1, 2, 0x200]),
+        };
+        if self.random.one_in(3) {
+            return self.call_trap(who, 0xff, 3, &[group]);
+        }
+        let major = match self.random.below(6) {
+            0 => self.random.pick(&[0, 3, 4, 1 << 32, 1 << 32 | 1, u64::MAX]),
+            // Rarely, because there is no way back from 2.0.
+            1 => self.random.pick(&[1, 2]),
+            _ => 1,
+        };
+        let minor = self.random.pick(&[0, 0, 1, u64::MAX]);
+        self.call_trap(who, 0xff, 0, &[group, major, minor]);
+    }
+
+    fn unknown_step(&mut self) {
+        let who = self.someone();
+        let known = self
+            .random
+            .pick(&[0, 3, 0x14, 0x16, 0x42, 0xa1, 0xa7, 0x103]);
+        let argument = self.edge_number();
+        match self.random.below(4) {
+            0 => {
+                let trap =
+                    self.random
+                        .pick(&[0, 0x7f, 0x81, 0xfe, 0x100, 0x180, 0x1_0000_0080, u64::MAX]);
+                self.call_trap(who, trap, known, &[argument]);
+            }
+            1 => {
+                let function =
+                    self.random
+                        .pick(&[1, 2, 4, 5, 0x14, 0xa0, 1 << 32, 1 << 32 | 3, u64::MAX]);
+                self.call_trap(who, 0xff, function, &[1, 1]);
+            }
+            2 => {
+                let function = self.random.pick(&[
+                    0, 3, 0x10, 0x13, 0x17, 0x1f, 0x22, 0x30, 0x33, 0x41, 0x43, 0x9f, 0xaf, 0x101,
+                    0x104,
+                ]);
+                self.call(who, function, &[argument]);
+            }
+            _ => {
+                let wide = self.random.pick(&[1 << 16, 1 << 32, 1 << 63]);
+                self.call(who, known | wide, &[argument]);
+            }
+        }
+    }
+
+    /// Every function with arguments of no plan.
+    fn any_call_step(&mut self) {
+        let who = self.someone();
+        let function = match self.random.below(3) {
+            0 => self
+                .random
+                .pick(&[0x14, 0x15, 0x16, 0x20, 0x21, 0x31, 0x32, 0x42, 0x102, 0x103]),
+            1 => 0xa0 + self.random.below(16),
+            _ => self.random.below(0x110),
+        };
+        let arguments: Vec<u64> = (0..self.random.below(6))
+            .map(|_| self.edge_number())
+            .collect();
+        self.call(who, function, &arguments);
+    }
+
+    fn malformed_step(&mut self) {
+        let line = if self.random.one_in(3) {
+            malformed::special(&mut self.random)
+        } else {
+            self.spoilt_line()
+        };
+        self.emit(&line);
+    }
+
+    fn spoilt_line(&mut self) -> Vec<u8> {
+        let (guest, cpu) = self.someone();
+        let (guest_number, cpu) = (guest as u64, cpu as u64);
+        let address = self.inside(guest, 8);
+        let mut line = match self.random.below(5) {
+            0 => self.line(
+                "call",
+                &[guest_number, cpu, 0x80, 0x14, 0x3c, address, 2, 0, 0],
+            ),
+            1 => self.line("head", &[guest_number, cpu, 0x3c, 0x40]),
+            2 => self.line("raise", &[0x100, 5]),
+            3 => self.line("load", &[guest_number, address]),
+            _ => self.line("store", &[guest_number, address, 0xbad]),
+        };
+        malformed::spoil(&mut line, &mut self.random);
+        line
+    }
+}
+
+/// Arguments that are 0 may be missing from the end.
+fn drop_zeros(fields: &mut Vec<u64>) {
+    while fields.len() > 4 && fields.last() == Some(&0) {
+        fields.pop();
+    }
+}

@@ -1,0 +1,379 @@
+//! Partition images: sound ones of many shapes, and damaged ones.
+
+use super::random::Random;
+
+const REAL_PAGES: u64 = 1 << 28;
+const HOST_PAGES: u64 = 1 << 16;
+const MEMORY_PAGES: u64 = 4;
+
+#[derive(Clone, Copy)]
+pub struct Extent {
+    real_page: u64,
+    pages: u64,
+    host_page: u64,
+}
+
+#[derive(Clone, Copy)]
+pub struct Source {
+    devhandle: u64,
+    devino: u64,
+    cookie_support: u64,
+}
+
+/// The counts are kept apart from the lists, so that they can be wrong.
+#[derive(Clone)]
+pub struct Guest {
+    cpus: u64,
+    extent_count: u64,
+    source_count: u64,
+    extents: Vec<Extent>,
+    sources: Vec<Source>,
+}
+
+#[derive(Clone)]
+pub struct Partition {
+    edition: u64,
+    guest_count: u64,
+    guests: Vec<Guest>,
+}
+
+/// A run of host pages: the first and how many.
+type Run = (u64, u64);
+
+impl Partition {
+    /// A sound partition whose host pages all lie in the lent memory.
+    pub fn in_memory(random: &mut Random) -> Partition {
+        let runs = runs_in_memory(random);
+        Partition::over(runs, random)
+    }
+
+    /// A sound partition whose host pages may lie anywhere.
+    pub fn anywhere(random: &mut Random) -> Partition {
+        let runs = runs_anywhere(random);
+        Partition::over(runs, random)
+    }
+
+    fn over(mut runs: Vec<Run>, random: &mut Random) -> Partition {
+        random.shuffle(&mut runs);
+        let most = runs.len().min(4);
+        let count = if random.one_in(2) {
+            most
+        } else {
+            1 + random.index(most)
+        };
+        let mut shares: Vec<Vec<Run>> = vec![Vec::new(); count];
+        for (i, run) in runs.into_iter().enumerate() {
+            let share = if i < count { i } else { random.index(count) };
+            if shares[share].len() < 4 {
+                shares[share].push(run);
+            }
+        }
+        let mut names = Vec::new();
+        let guests: Vec<Guest> = shares
+            .iter()
+            .map(|share| sound_guest(share, &mut names, random))
+            .collect();
+        Partition {
+            edition: 1,
+            guest_count: guests.len() as u64,
+            guests,
+        }
+    }
+
+    pub fn pack(&self) -> Vec<u8> {
+        let mut bits = BitWriter::default();
+        bits.field(self.edition, 4);
+        bits.field(self.guest_count, 4);
+        for guest in &self.guests {
+            guest.pack(&mut bits);
+        }
+        bits.bytes()
+    }
+
+    /// The image of this partition with one fault, or sometimes two.
+    pub fn damaged(mut self, random: &mut Random) -> Vec<u8> {
+        self.spoil(random);
+        if random.one_in(6) {
+            self.spoil(random);
+        }
+        let mut image = self.pack();
+        if random.one_in(4) {
+            spoil_bytes(&mut image, random);
+        }
+        image
+    }
+
+    fn spoil(&mut self, random: &mut Random) {
+        match random.below(10) {
+            0 => self.spoil_header(random),
+            1..=3 => self.spoil_count(random),
+            4..=6 => self.spoil_extent(random),
+            7 => self.spoil_order(random),
+            8 => self.share_host_page(random),
+            _ => self.name_twice(random),
+        }
+    }
+
+    fn spoil_header(&mut self, random: &mut Random) {
+        if random.one_in(2) {
+            self.edition = random.pick(&[0, 2, 3, 8, 15]);
+        } else {
+            self.guest_count = random.pick(&[0, 5, 6, 8, 15]);
+        }
+    }
+
+    fn spoil_count(&mut self, random: &mut Random) {
+        let guest = self.some_guest(random);
+        match random.below(3) {
+            0 => guest.cpus = random.pick(&[0, 9, 10, 15]),
+            // With no list behind a count of 0, the count alone is wrong.
+            1 if random.one_in(3) => (guest.extent_count, guest.extents) = (0, Vec::new()),
+            1 => guest.extent_count = random.pick(&[0, 5, 6, 7]),
+            _ => guest.source_count = random.pick(&[17, 18, 24, 31]),
+        }
+    }
+
+    /// Numbers at and past their bounds; at the bound the image stays sound.
+    fn spoil_extent(&mut self, random: &mut Random) {
+        let guest = self.some_guest(random);
+        let place = random.index(guest.extents.len());
+        let Some(extent) = guest.extents.get_mut(place) else {
+            return;
+        };
+        let past = random.pick(&[0, 1, 1, 1]);
+        match random.below(5) {
+            0 | 1 => extent.pages = 0,
+            2 => extent.real_page = (REAL_PAGES - extent.pages + past).min(REAL_PAGES - 1),
+            3 => extent.host_page = (HOST_PAGES - extent.pages + past).min(HOST_PAGES - 1),
+            _ => extent.pages = 0xffff,
+        }
+    }
+
+    /// Extents of one guest that overlap by a page, are equal or descend.
+    fn spoil_order(&mut self, random: &mut Random) {
+        let Some(guest) = self
+            .guests
+            .iter_mut()
+            .max_by_key(|guest| guest.extents.len())
+        else {
+            return;
+        };
+        let [.., first, second] = &mut guest.extents[..] else {
+            return;
+        };
+        match random.below(5) {
+            0 | 1 => second.real_page = (first.real_page + first.pages).saturating_sub(1),
+            2 => first.pages = second.real_page.saturating_sub(first.real_page) + random.below(2),
+            3 => second.real_page = first.real_page,
+            _ => guest.extents.reverse(),
+        }
+    }
+
+    fn share_host_page(&mut self, random: &mut Random) {
+        let all: Vec<Extent> = self.guests.iter().flat_map(|g| g.extents.clone()).collect();
+        let Some(&given) = all.get(random.index(all.len())) else {
+            return;
+        };
+        let guest = self.some_guest(random);
+        let place = random.index(guest.extents.len());
+        let Some(taker) = guest.extents.get_mut(place) else {
+            return;
+        };
+        // Shared from the front, from the back, or just touching.
+        taker.host_page = match random.below(3) {
+            0 => given.host_page,
+            1 => (given.host_page + given.pages)
+                .saturating_sub(1)
+                .min(HOST_PAGES - 1),
+            _ => (given.host_page + given.pages).min(HOST_PAGES - 1),
+        };
+    }
+
+    /// Copies a source's name to another, in the same guest or elsewhere. A
+    /// copy of one part of the name alone leaves the image sound.
+    fn name_twice(&mut self, random: &mut Random) {
+        let all: Vec<Source> = self.guests.iter().flat_map(|g| g.sources.clone()).collect();
+        if all.is_empty() {
+            return self.spoil_extent(random);
+        }
+        let named = random.pick(&all);
+        let guest = self.some_guest(random);
+        let place = random.index(guest.sources.len());
+        let Some(source) = guest.sources.get_mut(place) else {
+            return;
+        };
+        match random.below(6) {
+            0 => source.devhandle = named.devhandle,
+            1 => source.devino = named.devino,
+            _ => (source.devhandle, source.devino) = (named.devhandle, named.devino),
+        }
+    }
+
+    fn some_guest(&mut self, random: &mut Random) -> &mut Guest {
+        let place = random.index(self.guests.len());
+        &mut self.guests[place]
+    }
+}
+
+impl Guest {
+    fn pack(&self, bits: &mut BitWriter) {
+        bits.field(self.cpus, 4);
+        bits.field(self.extent_count, 3);
+        bits.field(self.source_count, 5);
+        for extent in &self.extents {
+            bits.field(extent.real_page, 28);
+            bits.field(extent.pages, 16);
+            bits.field(extent.host_page, 16);
+        }
+        for source in &self.sources {
+            bits.field(source.devhandle, 28);
+            bits.field(source.devino, 7);
+            bits.field(source.cookie_support, 1);
+        }
+    }
+}
+
+/// Faults of the bytes alone: cut short, fill bits, bytes behind, a bit off.
+pub fn spoil_bytes(image: &mut Vec<u8>, random: &mut Random) {
+    match random.below(6) {
+        0 | 1 => image.truncate(random.index(image.len())),
+        2 => image.truncate(image.len() - 1),
+        // The fields end at a half byte or at a whole one.
+        3 => *image.last_mut().unwrap_or(&mut 0) |= 1 << random.below(4),
+        4 => image.push(random.pick(&[0, 0, 1, 0x80, 0xff])),
+        _ => {
+            let place = random.index(image.len());
+            image[place] ^= 1 << random.below(8);
+        }
+    }
+}
+
+/// The first bytes of an image and no more, or none.
+pub fn stub(random: &mut Random) -> Vec<u8> {
+    let header = random.pick(&[0x00, 0x01, 0x10, 0x11, 0x12, 0x14, 0x15, 0x1f, 0x21, 0xf1]);
+    let counts = random.pick(&[
+        0x00, 0x02, 0x10, 0x12, 0x13, 0x18, 0x1a, 0x1e, 0x82, 0x92, 0xf2,
+    ]);
+    let mut image = vec![header, counts, random.pick(&[0x00, 0x10, 0xf0]), 0];
+    image.truncate(random.index(5));
+    image
+}
+
+fn runs_in_memory(random: &mut Random) -> Vec<Run> {
+    let mut runs = Vec::new();
+    let mut page = 0;
+    while page < MEMORY_PAGES {
+        let left = MEMORY_PAGES - page;
+        let pages = if random.one_in(2) {
+            1
+        } else {
+            1 + random.below(left)
+        };
+        // Some pages stay in no run, but never all of them.
+        if !random.one_in(8) || (runs.is_empty() && left == pages) {
+            runs.push((page, pages));
+        }
+        page += pages;
+    }
+    runs
+}
+
+fn runs_anywhere(random: &mut Random) -> Vec<Run> {
+    let mut runs = Vec::new();
+    let mut page = random.pick(&[0, 0, 1, 3, 4, 1000]);
+    for _ in 0..1 + random.below(9) {
+        let pages = random.pick(&[1, 1, 2, 3, 5, 64, 4096, 16384]);
+        if page + pages > HOST_PAGES {
+            break;
+        }
+        runs.push((page, pages));
+        page += pages + random.pick(&[0, 0, 1, 7, 5000]);
+    }
+    if random.one_in(4) && page < HOST_PAGES {
+        runs.push((page, HOST_PAGES - page));
+    }
+    runs
+}
+
+fn sound_guest(runs: &[Run], names: &mut Vec<(u64, u64)>, random: &mut Random) -> Guest {
+    let extents = sound_extents(runs, random);
+    let count = random.pick(&[0, 1, 1, 2, 3, 4, 6, 16]);
+    let sources: Vec<Source> = (0..count).map(|_| sound_source(names, random)).collect();
+    Guest {
+        cpus: random.pick(&[1, 2, 2, 2, 3, 3, 4, 5, 7, 8]),
+        extent_count: extents.len() as u64,
+        source_count: sources.len() as u64,
+        extents,
+        sources,
+    }
+}
+
+/// Real pages ascend, often touching, anywhere up to the last real page.
+fn sound_extents(runs: &[Run], random: &mut Random) -> Vec<Extent> {
+    let mut extents = Vec::new();
+    let mut span = 0;
+    for &(host_page, pages) in runs {
+        extents.push(Extent {
+            real_page: span,
+            pages,
+            host_page,
+        });
+        span += pages;
+        span += random.pick(&[0, 0, 0, 1, 2, 100]);
+    }
+    let start = match random.below(6) {
+        0..=2 => 0,
+        3 => 1 + random.below(16),
+        4 => random.below(REAL_PAGES - span),
+        _ => REAL_PAGES - span,
+    };
+    for extent in &mut extents {
+        extent.real_page += start;
+    }
+    extents
+}
+
+/// A name not given before. Parts of names are often shared.
+fn sound_source(names: &mut Vec<(u64, u64)>, random: &mut Random) -> Source {
+    loop {
+        let devhandle = match random.below(4) {
+            0 => random.below(1 << 28),
+            _ => random.pick(&[0, 1, 0x100, 0x200, 0x300, 0xfff_ffff]),
+        };
+        let devino = match random.below(2) {
+            0 => random.below(128),
+            _ => random.pick(&[0, 1, 5, 63, 64, 127]),
+        };
+        if !names.contains(&(devhandle, devino)) {
+            names.push((devhandle, devino));
+            let cookie_support = u64::from(!random.one_in(5));
+            return Source {
+                devhandle,
+                devino,
+                cookie_support,
+            };
+        }
+    }
+}
+
+/// Writes fields without gaps, most significant bit first.
+#[derive(Default)]
+struct BitWriter(Vec<u8>);
+
+impl BitWriter {
+    fn field(&mut self, value: u64, width: u32) {
+        self.0
+            .extend((0..width).rev().map(|place| (value >> place & 1) as u8));
+    }
+
+    /// Zero bits fill the last byte.
+    fn bytes(&self) -> Vec<u8> {
+        self.0.chunks(8).map(pack_byte).collect()
+    }
+}
+
+fn pack_byte(bits: &[u8]) -> u8 {
+    bits.iter()
+        .enumerate()
+        .fold(0, |byte, (place, bit)| byte | bit << (7 - place))
+}

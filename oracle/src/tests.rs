@@ -1,0 +1,51 @@
+//! Tests on the session's text.
+
+mod coverage;
+mod examples;
+mod readings;
+mod rules;
+mod text;
+
+use crate::session;
+
+/// Two guests with one page and one source each, from the paper's session.
+const IMAGE: &str =
+    "image 12 221 0000000 0001 0000 0000100 0b 121 0000000 0001 0001 0000200 0b -> 0\n";
+
+/// All groups of guest 0, with group 2 at 2.0.
+const VERSIONS: &str = "call 0 0 ff 0 0 1 -> 0 0 0 0 0
+call 0 0 ff 0 1 1 -> 0 0 0 0 0
+call 0 0 ff 0 2 2 -> 0 0 0 0 0
+call 0 0 ff 0 200 1 -> 0 0 0 0 0\n";
+
+fn answers(input: &[u8]) -> Vec<String> {
+    let mut output = Vec::new();
+    session::run(input, &mut output).expect("reading from and writing to memory");
+    let output = String::from_utf8(output).expect("answers are text");
+    assert!(output.is_empty() || output.ends_with('\n'));
+    output.lines().map(str::to_owned).collect()
+}
+
+/// Each line of the script is a line of input, an arrow and its answer. Only
+/// the status need be given where all values are 0.
+fn check(script: &str) {
+    let pairs: Vec<(&str, &str)> = script
+        .lines()
+        .map(|line| line.split_once(" -> ").expect("an arrow"))
+        .collect();
+    let input: String = pairs.iter().map(|(line, _)| format!("{line}\n")).collect();
+    let answers = answers(input.as_bytes());
+    assert_eq!(answers.len(), pairs.len());
+    for ((line, expected), answer) in pairs.iter().zip(answers) {
+        let short = answer.strip_suffix(" 0 0 0 0");
+        assert!(
+            *expected == answer || Some(*expected) == short,
+            "{line}: {answer}, not {expected}"
+        );
+    }
+}
+
+/// A script after the image and the versions.
+fn check_prepared(script: &str) {
+    check(&format!("{IMAGE}{VERSIONS}{script}"));
+}

@@ -1,0 +1,198 @@
+//! The readings of the session's text and of images.
+
+use super::{answers, check, check_prepared};
+
+fn one(line: &[u8]) -> String {
+    let answers = answers(line);
+    assert_eq!(answers.len(), 1, "{line:?}");
+    answers[0].clone()
+}
+
+#[test]
+fn ends_of_lines() {
+    assert!(answers(b"").is_empty());
+    assert_eq!(answers(b"\n"), ["bad"]);
+    assert_eq!(answers(b"\n\nload 0 0"), ["bad", "bad", "67 0 0 0 0"]);
+    assert_eq!(answers(b"image\n\nimage\n"), ["6e", "bad", "6e"]);
+    assert_eq!(answers(b"image\r\nimage"), ["bad", "6e"]);
+}
+
+#[test]
+fn lengths_of_lines() {
+    let mut line = b"image".to_vec();
+    line.resize(2048, b' ');
+    assert_eq!(one(&line), "6e");
+    line.push(b'\n');
+    assert_eq!(one(&line), "6e");
+    line.insert(5, b' ');
+    assert_eq!(one(&line), "bad");
+    line.pop();
+    assert_eq!(one(&line), "bad");
+    line.resize(1_000_000, b' ');
+    assert_eq!(one(&line), "bad");
+    line.extend_from_slice(b"\nload 0 0");
+    assert_eq!(answers(&line), ["bad", "67 0 0 0 0"]);
+}
+
+#[test]
+fn statuses_print_as_hex() {
+    check("call 0 0 ff 0 -> 67\nraise 0 0 -> 68\nimage -> 6e\nimage 00 -> 6f");
+    check_prepared("call 0 0 ff 0 1 2 -> d");
+}
+
+#[test]
+fn image_lines() {
+    check(
+        "image -> 6e
+image     -> 6e
+image12 -> bad
+image1 -> bad
+images -> bad
+Image 11 -> bad
+ image 11 -> bad
+image 1 -> bad
+image 1 1 1 -> bad
+image  1 1  1 2  -> 6e
+image 11\t12 -> bad
+image 0x11 -> bad
+image 1g -> bad",
+    );
+    assert_eq!(one(b"image 11\r\n"), "bad");
+    assert_eq!(one(b"image 11\0"), "bad");
+    assert_eq!(one(b"image\t11"), "bad");
+    assert_eq!(one(b"image\xa011"), "bad");
+}
+
+#[test]
+fn counts_are_tested_as_they_are_read() {
+    check(
+        "image 01 -> 6f
+image 21 -> 6f
+image 10 -> 6f
+image 15 -> 6f
+image 11 -> 6e
+image 1100 -> 6f
+image 1190 -> 6f
+image 1110 -> 6f
+image 111a -> 6f
+image 1112 -> 6e
+image 111300 -> 6e
+image 111310 -> 6f
+image 1112 10 -> 6e",
+    );
+}
+
+#[test]
+fn rules_after_the_last_field() {
+    check(
+        "image 11 120 0000000 0001 0000 -> 0
+image 11 120 0000000 0001 0000 00 -> 6f
+image 11 120 0000000 0000 0000 -> 6f
+image 11 120 fffffff 0001 0000 -> 0
+image 11 120 fffffff 0002 0000 -> 6f
+image 11 120 0000000 0001 ffff -> 0
+image 11 120 0000000 0002 ffff -> 6f
+image 11 140 0000000 0001 0000 0000001 0001 0001 0 -> 0
+image 11 140 0000000 0001 0000 0000001 0001 0001 1 -> 6f
+image 11 140 0000000 0001 0000 0000001 0001 0001 8 -> 6f
+image 11 140 0000000 0002 0000 0000001 0001 0002 0 -> 6f
+image 11 140 0000001 0001 0000 0000000 0001 0001 0 -> 6f
+image 11 140 0000000 0002 0000 0000002 0001 0001 0 -> 6f
+image 12 120 0000000 0002 0000 120 0000000 0001 0001 0 -> bad
+image 12 120 0000000 0002 0000 120 0000000 0001 0001 -> 6f
+image 12 120 0000000 0001 0000 120 0000000 0001 0001 -> 0
+image 11 122 0000000 0001 0000 0000100 0a 0000100 0a -> 6f
+image 11 122 0000000 0001 0000 0000100 0a 0000100 0b -> 6f
+image 11 122 0000000 0001 0000 0000100 0a 0000101 0a -> 0
+image 11 122 0000000 0001 0000 0000100 0a 0000100 0c -> 0
+image 12 121 0000000 0001 0000 0000100 0a 121 0000000 0001 0001 0000100 0b -> 6f",
+    );
+}
+
+#[test]
+fn a_count_decides_before_missing_bits_and_other_rules_after() {
+    check(
+        "image 12 120 0000000 0000 0000 -> 6e
+image 12 120 0000000 0000 0000 00 -> 6f
+image 12 120 0000000 0000 0000 12 -> 6e",
+    );
+}
+
+#[test]
+fn refused_image_loses_tables_and_keeps_memory() {
+    check_prepared(
+        "store 0 8 1234 -> 0
+image 1 -> bad
+load 0 8 -> 0 1234 0 0 0
+image 00 -> 6f
+load 0 8 -> 67
+raise 100 5 -> 68
+image 11 120 0000000 0001 0000 -> 0
+load 0 8 -> 0 1234 0 0 0
+call 0 0 80 16 -> 7",
+    );
+}
+
+#[test]
+fn spaces_and_words() {
+    check_prepared(
+        " load 0 0 -> bad
+load 0 0  -> bad
+load  0 0 -> bad
+load\t0 0 -> bad
+load 0\t0 -> bad
+Load 0 0 -> bad
+LOAD 0 0 -> bad
+load,0 0 -> bad
+lode 0 0 -> bad
+load 0 0 -> 0",
+    );
+    for line in [
+        b"load 0 0\r".as_slice(),
+        b"load 0 0\0",
+        b"\0load 0 0",
+        b"load 0 \xff",
+        b"load 0 \xc2\xa0",
+    ] {
+        assert_eq!(one(line), "bad");
+    }
+}
+
+#[test]
+fn fields() {
+    check_prepared(
+        "load 0 0000000000000000 -> 0
+load 0 00000000000000000 -> bad
+load 00000000000000000 0 -> bad
+load 0 0x0 -> bad
+load 0 +0 -> bad
+load 0 -0 -> bad
+load 0 g -> bad
+store 0 0 aBcDeF -> 0
+load 0 0 -> 0 abcdef 0 0 0
+store 0 0 FFFFFFFFFFFFFFFF -> 0
+load 0 0 -> 0 ffffffffffffffff 0 0 0",
+    );
+}
+
+#[test]
+fn numbers_of_fields() {
+    check_prepared(
+        "call -> bad
+call 0 0 80 -> bad
+call 0 0 80 16 -> 0
+call 0 0 80 16 1 2 3 4 5 -> 0
+call 0 0 80 16 1 2 3 4 5 6 -> bad
+head 0 0 3c -> bad
+head 0 0 3c 0 -> 6
+head 0 0 3c 0 0 -> bad
+raise 100 -> bad
+raise 100 5 -> 0 1 0 0 0
+raise 100 5 0 -> bad
+load 0 -> bad
+load 0 0 0 -> bad
+store 0 0 -> bad
+store 0 0 0 -> 0
+store 0 0 0 0 -> bad",
+    );
+}
