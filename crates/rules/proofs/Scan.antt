@@ -125,3 +125,14 @@ module _ (p : ℕ → Bool) where
 
   pub first-found : (i n : ℕ) (t : Bool) → i < n → firstBelow i p ≡ Found.Nothing → t ≡ p i → t ≡ true → Found.At i ≡ firstBelow n p
   first-found i n t h a b e = first-at i n h a (sym b ∙ e)
+
+-- what is found lies below the limit
+pub first-below : (n i : ℕ) (p : ℕ → Bool) → firstBelow n p ≡ Found.At i → i < n
+unfolding firstBelow
+first-below zero i p e = let z : _≡_ {A = ℕ} 0 1 = cc in absurd (omega arith)
+first-below (suc n) i p e = go (λ q. first-below n i p q) (firstBelow n p) (p n) refl e
+  where
+    go : (firstBelow n p ≡ Found.At i → i < n) → (x : Found) (t : Bool) → firstBelow n p ≡ x → foundOr x t n ≡ Found.At i → i < suc n
+    go below Found.Nothing true q f = let z : n ≡ i = cc in omega arith
+    go below Found.Nothing false q f = let z : _≡_ {A = ℕ} 0 1 = cc in absurd (omega arith)
+    go below (Found.At j) t q f = omega (arith, below (q ∙ f))

@@ -1,0 +1,97 @@
+-- From what each call gives to what the rule of its function says.
+use mathlib.Core.Path.{_≡_, refl, sym, ap, _∙_}
+use mathlib.Core.Bool.{true, false}
+use mathlib.Core.List.{List, []}
+use Prim.Native.Nat.{ℕ}
+use native.Mathlib.Omega.{arith}
+use lib.Dec.{leb, eqb}
+use borrow.Author.Tests.{eq-eqb, ne-eqb}
+use Rattle.rules.specs.declared.Answer.{Answer}
+use Rattle.rules.specs.declared.Answer.the-variants.{Refused}
+use Rattle.rules.specs.declared.Call.{Call}
+use Rattle.rules.specs.declared.Extents.{Extents}
+use Rattle.rules.specs.declared.Function.{Function}
+use Rattle.rules.specs.declared.Plant.{Plant}
+use Rattle.rules.specs.declared.Refusal.{Refusal}
+use Rattle.rules.specs.declared.Refusal.the-variants.{EBADTRAP, ENOTSUPPORTED}
+use Rattle.rules.specs.declared.Versions.{Versions}
+use Rattle.rules.specs.Real.{Sight, apply}
+use Rattle.rules.specs.Rulings.{Ruling, refused, granted, Outcome, outcomeOf, _or-refuse_then_, _grants_}
+use Rattle.rules.specs.Sources.{intr-devino2sysino, intr}
+use Rattle.rules.specs.Calls.{functionOf, negotiatedAs, admitted, perform, call}
+use Rattle.memory.specs.Ready.{present}
+use Rattle.records.specs.declared.Verdict.{Verdict}
+use Rattle.records.specs.declared.Verdict.the-variants.{Right, Refused as Told}
+use Rattle.records.specs.Verdict.{verdictOf}
+use Rattle.records.proofs.Told.{told-refused, told-then}
+use Rattle.calls.specs.declared.Done.{Done}
+use Rattle.calls.specs.Done.{quietly, saying}
+use Rattle.calls.specs.Follows.{Follows}
+use Rattle.calls.specs.Dispatch.{sysinoRule}
+
+-- a call that writes nothing leaves the memory as it was
+module _ (extents : Extents) (plant : Plant) (x : Ruling Outcome) (m : List ℕ) (d : Done) where
+  pub quiet : quietly d ≡ outcomeOf plant x → Follows extents plant x m d m
+  unfolding apply
+  quiet e = record {
+    answer = ap (λ (o : Outcome). o .answer) e;
+    plant = ap (λ (o : Outcome). o .plant) e;
+    memory = ap (λ (o : Outcome). apply (present extents) m (o .writes)) e;
+  }
+
+  pub quiet-told : (a : Answer) → quietly d ≡ saying plant a → saying plant a ≡ outcomeOf plant x → Follows extents plant x m d m
+  quiet-told a p q = quiet (p ∙ q)
+
+-- a refusal is not right
+never-right : (r : Refusal) → verdictOf {A = Function} (refused r) ≡ Right → ⊥
+unfolding verdictOf
+never-right r e = let z : _≡_ {A = ℕ} 0 1 = cc in omega arith
+
+-- a function that is admitted is granted as it is
+admitted-group : (major : ℕ) (f : Function) → verdictOf (negotiatedAs major f) ≡ Right → negotiatedAs major f ≡ granted f
+admitted-group major f e = rw (told-then (leb 1 major) EBADTRAP (granted f) e)
+
+pub admitted-itself : (v : Versions) (f : Function) → verdictOf (admitted v f) ≡ Right → admitted v f ≡ granted f
+unfolding admitted
+admitted-itself v Function.Unknown e = absurd (never-right _ e)
+admitted-itself v Function.SetVersion e = refl
+admitted-itself v Function.GetVersion e = refl
+admitted-itself v Function.CpuQconf e = admitted-group (v .core) Function.CpuQconf e
+admitted-itself v Function.CpuQinfo e = admitted-group (v .core) Function.CpuQinfo e
+admitted-itself v Function.CpuMyid e = admitted-group (v .core) Function.CpuMyid e
+admitted-itself v Function.CpuMondoSend e = admitted-group (v .core) Function.CpuMondoSend e
+admitted-itself v Function.MmuTsbCtx0 e = admitted-group (v .core) Function.MmuTsbCtx0 e
+admitted-itself v Function.MmuTsbCtxnon0 e = admitted-group (v .core) Function.MmuTsbCtxnon0 e
+admitted-itself v Function.MemScrub e = admitted-group (v .core) Function.MemScrub e
+admitted-itself v Function.MemSync e = admitted-group (v .core) Function.MemSync e
+admitted-itself v Function.MmustatConf e = admitted-group (v .statistics) Function.MmustatConf e
+admitted-itself v Function.MmustatInfo e = admitted-group (v .statistics) Function.MmustatInfo e
+admitted-itself v (Function.Sysino n) e =
+    let a : leb 1 (v .interrupt) ≡ true = told-then (leb 1 (v .interrupt)) EBADTRAP (eqb (v .interrupt) 1 or-refuse ENOTSUPPORTED then granted (Function.Sysino n)) e in
+    let b : eqb (v .interrupt) 1 ≡ true = told-then (eqb (v .interrupt) 1) ENOTSUPPORTED (granted (Function.Sysino n)) (rw a at e) in
+    rw (a, b)
+admitted-itself v (Function.Cookie n) e = rw (told-then (eqb (v .interrupt) 2) EBADTRAP (granted (Function.Cookie n)) e)
+
+-- the function that the code's match told
+pub perform-as : (extents : Extents) (plant : Plant) (s : Sight) (c : Call) (m after : List ℕ) (d : Done) (f g : Function) → f ≡ g → Follows extents plant (perform s plant c g) m d after → Follows extents plant (perform s plant c f) m d after
+perform-as extents plant s c m after d f g e p = rw e p
+
+-- a call whose function may not be called, and one whose function may: v is what the code was told of it
+module _ (extents : Extents) (plant : Plant) (s : Sight) (c : Call) (m : List ℕ) (d : Done) (f : Function) (v : Verdict) (p : f ≡ functionOf (c .trap) (c .function)) (q : v ≡ verdictOf (admitted (plant .versions) f)) where
+  pub call-refused : (r : Refusal) → v ≡ Told r → quietly d ≡ saying plant (Refused r) → Follows extents plant (call s plant c) m d m
+  unfolding call
+  call-refused r e g = quiet extents plant (call s plant c) m d (g ∙ rw (← p, told-refused (admitted (plant .versions) f) r (sym q ∙ e)))
+
+  pub call-performed : (after : List ℕ) → v ≡ Right → Follows extents plant (perform s plant c f) m d after → Follows extents plant (call s plant c) m d after
+  unfolding call
+  call-performed after e g = rw (← p, admitted-itself (plant .versions) f (sym q ∙ e)) g
+
+-- 0xa0 and the functions behind it
+module _ (plant : Plant) (c : Call) (n : ℕ) (d : Done) where
+  pub sysino-first : (a : Answer) → n ≡ 0xa0 → saying plant a ≡ outcomeOf plant (intr-devino2sysino plant (c .arg0) (c .arg1)) → quietly d ≡ saying plant a → quietly d ≡ outcomeOf plant (sysinoRule plant c n)
+  unfolding sysinoRule
+  sysino-first a e p q = rw (eq-eqb n 0xa0 e) (q ∙ p)
+
+  pub sysino-later : (n ≡ 0xa0 → ⊥) → quietly d ≡ outcomeOf plant (intr plant n (c .arg0) (c .arg1)) → quietly d ≡ outcomeOf plant (sysinoRule plant c n)
+  unfolding sysinoRule
+  sysino-later h p = rw (ne-eqb n 0xa0 h) p

@@ -1,0 +1,70 @@
+-- The rule of a plant's own event at each return of the code.
+use mathlib.Core.Path.{_≡_, refl, sym, ap, _∙_}
+use mathlib.Core.Bool.{true, false}
+use mathlib.Core.List.{List}
+use Prim.Native.Nat.{ℕ, _-_, _≤_, _<_}
+use native.Mathlib.Omega.{arith}
+use borrow.Author.Tests.{lt-ltb, le-ltb}
+use Rattle.rules.specs.declared.Answer.the-variants.{Refused}
+use Rattle.rules.specs.declared.Call.{Call}
+use Rattle.rules.specs.declared.Device.{Device}
+use Rattle.rules.specs.declared.Event.{Event}
+use Rattle.rules.specs.declared.Extents.{Extents}
+use Rattle.rules.specs.declared.Found.{Found}
+use Rattle.rules.specs.declared.HeadWrite.{HeadWrite}
+use Rattle.rules.specs.declared.Plant.{Plant}
+use Rattle.rules.specs.declared.QueueRecord.{QueueRecord}
+use Rattle.rules.specs.declared.Refusal.the-variants.{NoCaller, NoSource}
+use Rattle.rules.specs.Kept.{cpuAt, queueAt}
+use Rattle.rules.specs.Real.{Sight}
+use Rattle.rules.specs.Rulings.{Ruling, Outcome, outcomeOf}
+use Rattle.rules.specs.Calls.{call}
+use Rattle.rules.specs.Queues.{write-head}
+use Rattle.rules.specs.Sources.{sysinoOf, raise, raiseAt}
+use Rattle.rules.specs.Host.{plantRule}
+use Rattle.records.specs.Sound.{RecordSound, Sound}
+use Rattle.calls.specs.declared.Done.{Done}
+use Rattle.calls.specs.Done.{quietly, saying}
+use Rattle.calls.specs.Follows.{Follows}
+use Rattle.calls.specs.Rings.{PlacesSound}
+use Rattle.calls.proofs.DispatchLaws.{quiet}
+
+-- a ring that is sound holds its head and its tail
+places-sound : (v : ℕ → ℕ → _) (held : QueueRecord) → RecordSound v held → PlacesSound held
+places-sound v QueueRecord.Unset s = tt
+places-sound v (QueueRecord.Set ring) s = record { head = s .head-below; tail = s .tail-below }
+
+pub head-places : (extents : Extents) (plant : Plant) (n cpu queue : ℕ) → Sound extents plant n → cpu < plant .cpus → queue ≤ 0x3f → PlacesSound (queueAt (cpuAt plant cpu) (queue - 0x3c))
+head-places extents plant n cpu queue s h l = places-sound _ (queueAt (cpuAt plant cpu) (queue - 0x3c)) (s .rings cpu (queue - 0x3c) h (omega arith))
+
+module _ (extents : Extents) (plant : Plant) (s : Sight) (m : List ℕ) (d : Done) where
+  module _ (c : Call) where
+    pub call-nobody : plant .cpus ≤ c .cpu → quietly d ≡ saying plant (Refused NoCaller) → Follows extents plant (plantRule s plant (Event.Call c)) m d m
+    unfolding plantRule
+    call-nobody h g = quiet extents plant (plantRule s plant (Event.Call c)) m d (g ∙ rw (le-ltb (c .cpu) (plant .cpus) h))
+
+    pub call-cpu : (after : List ℕ) → c .cpu < plant .cpus → Follows extents plant (call s plant c) m d after → Follows extents plant (plantRule s plant (Event.Call c)) m d after
+    unfolding plantRule
+    call-cpu after h g = rw (lt-ltb (c .cpu) (plant .cpus) h) g
+
+  module _ (w : HeadWrite) where
+    pub head-nobody : plant .cpus ≤ w .cpu → quietly d ≡ saying plant (Refused NoCaller) → Follows extents plant (plantRule s plant (Event.Head w)) m d m
+    unfolding plantRule
+    head-nobody h g = quiet extents plant (plantRule s plant (Event.Head w)) m d (g ∙ rw (le-ltb (w .cpu) (plant .cpus) h))
+
+    pub head-cpu : w .cpu < plant .cpus → quietly d ≡ outcomeOf plant (write-head plant (w .cpu) (w .queue) (w .value)) → Follows extents plant (plantRule s plant (Event.Head w)) m d m
+    unfolding plantRule
+    head-cpu h g = quiet extents plant (plantRule s plant (Event.Head w)) m d (g ∙ rw (lt-ltb (w .cpu) (plant .cpus) h))
+
+  module _ (v : Device) (f : Found) (p : f ≡ sysinoOf plant (v .devhandle) (v .devino)) where
+    pub raise-nothing : f ≡ Found.Nothing → quietly d ≡ saying plant (Refused NoSource) → Follows extents plant (plantRule s plant (Event.Raise v)) m d m
+    unfolding plantRule raise
+    raise-nothing e g = quiet extents plant (plantRule s plant (Event.Raise v)) m d (g ∙ rw (← p, e))
+
+    pub raise-there : (after : List ℕ) (i : ℕ) → f ≡ Found.At i → Follows extents plant (raiseAt plant i) m d after → Follows extents plant (plantRule s plant (Event.Raise v)) m d after
+    unfolding plantRule raise
+    raise-there after i e g = rw (← p, e) g
+
+-- the event that the code's match told
+pub event-as : (extents : Extents) (plant : Plant) (s : Sight) (m after : List ℕ) (d : Done) (e f : Event) → e ≡ f → Follows extents plant (plantRule s plant f) m d after → Follows extents plant (plantRule s plant e) m d after
+event-as extents plant s m after d e f p g = rw p g

@@ -1,0 +1,31 @@
+-- The steps of 0x42's rule that are functions of their own in the code.
+use mathlib.Core.Bool.{Bool, _&&_, not}
+use Prim.Native.Nat.{ℕ, _*_, _%_}
+use lib.Dec.{leb, ltb, eqb}
+use Rattle.rules.specs.declared.Plant.{Plant}
+use Rattle.rules.specs.declared.Refusal.the-variants.{EINVAL, EBADALIGN, ENORADDR, ENOCPU}
+use Rattle.rules.specs.Scan.{someBelow, allBelow}
+use Rattle.rules.specs.Real.{Sight, bytesFrom}
+use Rattle.rules.specs.Rulings.{Ruling, granted, Outcome, _or-refuse_then_}
+use Rattle.rules.specs.Mondo.{entryAt, entries, sendAll, sentAs}
+
+-- what is asked before the list is read
+unfoldable pub mondoRanges : (ℕ → ℕ → Bool) → ℕ → ℕ → ℕ → Ruling Outcome → Ruling Outcome
+mondoRanges valid count list dataAt rest =
+    (leb 1 count && leb count 64) or-refuse EINVAL then
+    (eqb (dataAt % 64) 0 && eqb (list % 2) 0) or-refuse EBADALIGN then
+    (valid dataAt 64 && valid list (2 * count)) or-refuse ENORADDR then
+    rest
+
+-- what is asked of its entries
+unfoldable pub mondoCpus : (ℕ → ℕ) → ℕ → ℕ → ℕ → Ruling Outcome → Ruling Outcome
+mondoCpus entry count cpu cpus rest =
+    not (someBelow count (λ i. eqb (entry i) cpu)) or-refuse EINVAL then
+    allBelow count (λ i. ltb (entry i) cpus) or-refuse ENOCPU then
+    rest
+
+-- what follows the questions before the list is read
+unfoldable pub mondoSent : Sight → Plant → ℕ → ℕ → ℕ → ℕ → Ruling Outcome
+mondoSent sight plant cpu count list dataAt =
+    mondoCpus (entryAt (sight .byte) list) count cpu (plant .cpus)
+    (granted (sentAs (sendAll plant (entries (sight .byte) list count) (bytesFrom (sight .byte) dataAt 64) list)))

@@ -1,0 +1,103 @@
+// From a trap and a function number to the call. The numbers and the negotiated versions decide first; the arguments are looked
+// at by the call alone.
+use crate::Done;
+use crate::functions::admit;
+use crate::functions::function_of;
+use crate::mondo::cpu_mondo_send;
+use crate::queues::cpu_myid;
+use crate::queues::cpu_qconf;
+use crate::queues::cpu_qinfo;
+use crate::sources::intr;
+use crate::sources::intr_devino2sysino;
+use crate::sources::vintr;
+use crate::statistics::mmustat_conf;
+use crate::statistics::mmustat_info;
+use crate::told;
+use crate::tsb::mmu_tsb_ctx0;
+use crate::tsb::mmu_tsb_ctxnon0;
+use crate::versions::get_version;
+use crate::versions::set_version;
+use crate::words::mem_scrub;
+use crate::words::mem_sync;
+use records::Verdict;
+use rules::Answer;
+use rules::Call;
+use rules::Extents;
+use rules::Function;
+use rules::Plant;
+use rules::Refusal;
+ghost use mathlib.Core.Path.{_≡_};
+ghost use Prim.Native.Nat.{_≤_, _<_};
+ghost use lib.ListN.{length};
+ghost use Rattle.rules.specs.Limits.{sourceLimit};
+ghost use Rattle.rules.specs.Real.{sightOf};
+ghost use Rattle.rules.specs.Rulings.{outcomeOf};
+ghost use Rattle.rules.specs.Calls.{perform, call};
+ghost use Rattle.memory.specs.Ready.{present};
+ghost use Rattle.records.specs.Sound.{Sound};
+ghost use Rattle.calls.specs.Done.{quietly};
+ghost use Rattle.calls.specs.Follows.{Follows};
+ghost use Rattle.calls.specs.Dispatch.{sysinoRule};
+
+// 0xa0 to 0xa6.
+fn sysino_call(plant: Plant, c: Call, function: u64) -> Done
+    requires { ⌜ plant .sources ≤ sourceLimit ⌝ }
+    ensures { λ r. ⌜ quietly r ≡ outcomeOf plant (sysinoRule plant c function) ⌝ }
+{
+    if function == 0xa0 {
+        let answer = intr_devino2sysino(plant, c.arg0, c.arg1);
+        return told(plant, answer);
+    }
+    intr(plant, function, c.arg0, c.arg1)
+}
+
+fn perform(extents: Extents, plant: Plant, mem: &mut [u8], c: Call, f: Function) -> Done
+    requires { ⌜ Sound extents plant (length (now mem)) ⌝ }
+    requires { ⌜ c .cpu < plant .cpus ⌝ }
+    ensures { λ r. ⌜ Follows extents plant (perform (sightOf (present extents) (now (mem .entry))) plant c f) (now (mem .entry)) r (now (mem .exit)) ⌝ }
+{
+    let cpu = c.cpu as usize;
+    match f {
+        Function::Unknown => told(plant, Answer::Refused(Refusal::EBADTRAP)),
+        Function::SetVersion => set_version(plant, c.arg0, c.arg1),
+        Function::GetVersion => {
+            let answer = get_version(plant, c.arg0);
+            told(plant, answer)
+        }
+        Function::CpuQconf => cpu_qconf(extents, plant, cpu, c.arg0, c.arg1, c.arg2),
+        Function::CpuQinfo => {
+            let answer = cpu_qinfo(plant, cpu, c.arg0);
+            told(plant, answer)
+        }
+        Function::CpuMyid => {
+            let answer = cpu_myid(cpu);
+            told(plant, answer)
+        }
+        Function::CpuMondoSend => cpu_mondo_send(extents, plant, mem, cpu, c.arg0, c.arg1, c.arg2),
+        Function::MmuTsbCtx0 => mmu_tsb_ctx0(extents, plant, mem, cpu, c.arg0, c.arg1),
+        Function::MmuTsbCtxnon0 => mmu_tsb_ctxnon0(extents, plant, mem, cpu, c.arg0, c.arg1),
+        Function::MemScrub => mem_scrub(extents, plant, mem, c.arg0, c.arg1),
+        Function::MemSync => mem_sync(extents, plant, c.arg0, c.arg1),
+        Function::MmustatConf => mmustat_conf(extents, plant, cpu, c.arg0),
+        Function::MmustatInfo => {
+            let answer = mmustat_info(plant, cpu);
+            told(plant, answer)
+        }
+        Function::Sysino(function) => sysino_call(plant, c, function),
+        Function::Cookie(function) => vintr(plant, function, c.arg0, c.arg1, c.arg2),
+    }
+}
+
+pub fn call(extents: Extents, plant: Plant, mem: &mut [u8], c: Call) -> Done
+    requires { ⌜ Sound extents plant (length (now mem)) ⌝ }
+    requires { ⌜ c .cpu < plant .cpus ⌝ }
+    ensures { λ r. ⌜ Follows extents plant (call (sightOf (present extents) (now (mem .entry))) plant c) (now (mem .entry)) r (now (mem .exit)) ⌝ }
+{
+    let f = function_of(c.trap, c.function);
+    let versions = plant.versions;
+    let verdict = admit(versions, f);
+    match verdict {
+        Verdict::Right => perform(extents, plant, mem, c, f),
+        Verdict::Refused(r) => told(plant, Answer::Refused(r)),
+    }
+}
