@@ -1,4 +1,4 @@
--- What each way through the putting of an entry shows, and what it keeps.
+-- The ring that an entry goes to, and what each way through the putting shows.
 use mathlib.Core.Path.{_≡_, refl, sym, _∙_, subst}
 use mathlib.Core.Bool.{true, false}
 use mathlib.Core.List.{List}

@@ -63,12 +63,14 @@ fn read_list(extents: Extents, mem: &[u8], list: u64, count: usize) -> [u16; MON
     let mut cpus = [0u16; MONDOS];
     let mut i = 0;
     while i < count {
-        cpus[i] = memory::number2(extents, mem, Real(list + 2 * (i as u64)));
+        let at = list + 2 * (i as u64);
+        cpus[i] = memory::number2(extents, mem, Real(at));
         i += 1;
     }
     cpus
 }
 
+// Whether an entry names a cpu.
 fn is_cpu(entry: u16, cpu: usize) -> bool
     ensures { λ r. ⌜ r ≡ eqb entry cpu ⌝ }
 {
@@ -90,6 +92,7 @@ fn names_caller(cpus: &[u16; MONDOS], count: usize, cpu: usize) -> bool
     false
 }
 
+// Whether an entry is below the number of cpus.
 fn is_below(entry: u16, limit: u8) -> bool
     ensures { λ r. ⌜ r ≡ ltb entry limit ⌝ }
 {
@@ -125,7 +128,7 @@ fn judge_cpus(cpus: &[u16; MONDOS], count: usize, cpu: usize, limit: u8) -> Verd
     Verdict::Right
 }
 
-// The packet to one cpu, whose entry in the list stands at mark.
+// The packet to one cpu, whose entry in the list stands at mark and becomes 0xffff.
 fn send_one(
     extents: Extents,
     plant: Plant,
@@ -167,14 +170,9 @@ fn send_all(
     let mut all = true;
     let mut i = 0;
     while i < count {
-        let sent = send_one(
-            extents,
-            next,
-            mem,
-            cpus[i] as usize,
-            packet,
-            list + 2 * (i as u64),
-        );
+        let cpu = cpus[i] as usize;
+        let mark = list + 2 * (i as u64);
+        let sent = send_one(extents, next, mem, cpu, packet, mark);
         let after = sent.plant;
         next = after;
         all = all & sent.all;
@@ -224,6 +222,7 @@ fn send_listed(
     }
 }
 
+// 0x42: the data to each cpu of a list.
 pub fn cpu_mondo_send(
     extents: Extents,
     plant: Plant,

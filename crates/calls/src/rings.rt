@@ -49,7 +49,8 @@ pub fn put_entry(
             if tail == ring.head {
                 return Sent { plant, all: false };
             }
-            memory::write_at(extents, mem, Real(ring.base + (ring.tail as u64)), entry);
+            let at = ring.base + (ring.tail as u64);
+            memory::write_at(extents, mem, Real(at), entry);
             let moved = Ring {
                 base: ring.base,
                 size: ring.size,

@@ -49,6 +49,7 @@ fn descriptor_at(extents: Extents, mem: &[u8], real: Real) -> Tsb
     }
 }
 
+// The places of a list with nothing in them.
 fn blank_tsbs() -> [Tsb; TSBS]
     ensures { λ r. ⌜ r ≡ blankTsbs .list ⌝ }
 {
@@ -81,7 +82,8 @@ fn read_tsbs(extents: Extents, mem: &[u8], count: u8, pointer: u64) -> NewTsbs
     let mut list = blank_tsbs();
     let mut i = 0;
     while i < count {
-        let t = descriptor_at(extents, mem, Real(pointer + 32 * (i as u64)));
+        let at = pointer + 32 * (i as u64);
+        let t = descriptor_at(extents, mem, Real(at));
         let verdict = records::judge_tsb(extents, t);
         if !records::is_right(verdict) {
             return no_tsbs(verdict);
@@ -117,7 +119,7 @@ fn new_tsbs(extents: Extents, mem: &[u8], ntsb: u64, pointer: u64) -> NewTsbs
     read_tsbs(extents, mem, ntsb as u8, pointer)
 }
 
-// 0x20
+// 0x20: the list for context 0.
 pub fn mmu_tsb_ctx0(
     extents: Extents,
     plant: Plant,
@@ -148,7 +150,7 @@ pub fn mmu_tsb_ctx0(
     }
 }
 
-// 0x21
+// 0x21: the list for the other contexts.
 pub fn mmu_tsb_ctxnon0(
     extents: Extents,
     plant: Plant,

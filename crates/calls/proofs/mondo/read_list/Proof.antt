@@ -21,11 +21,11 @@ abbrev μ-loop : tie.MeasureT-loop
 loop-holds : tie.Need-loop-holds Inv-loop μ-loop
 loop-holds c = (omega arith, refl, read-none _ _)
 
-mul-t10 : tie.Need-mul-t10 Inv-loop μ-loop
-mul-t10 c = omega arith
+mul-at : tie.Need-mul-at Inv-loop μ-loop
+mul-at c = omega arith
 
-add-t11 : tie.Need-add-t11 Inv-loop μ-loop
-add-t11 c =
+add-at : tie.Need-add-at Inv-loop μ-loop
+add-at c =
     let s = c .before .before .before in
     omega (arith, range-ends (s .args .extents) _ (s .args .list) (2 * s .args .count) (s .good .0) (s .pre .1 .1))
 
@@ -64,8 +64,8 @@ read-list-spec =
     Inv-loop
     μ-loop
     loop-holds
-    mul-t10
-    add-t11
+    mul-at
+    add-at
     number2-requires
     mul-cpus
     array-write-cpus

@@ -18,24 +18,24 @@ abbrev μ-loop : tie.MeasureT-loop
 loop-holds : tie.Need-loop-holds Inv-loop μ-loop
 loop-holds c = (omega arith, refl, sending-none _ _ _ _ _ _ _ (c .before .pre .0))
 
-mul-send-one : tie.Need-mul-send-one Inv-loop μ-loop
-mul-send-one c = omega arith
+mul-cpu : tie.Need-mul-cpu Inv-loop μ-loop
+mul-cpu c = omega arith
 
-element-copy-out-send-one : tie.Need-element-copy-out-send-one Inv-loop μ-loop
-element-copy-out-send-one c = omega arith
+element-copy-out-cpu : tie.Need-element-copy-out-cpu Inv-loop μ-loop
+element-copy-out-cpu c = omega arith
 
-cast-send-one : tie.Need-cast-send-one Inv-loop μ-loop
-cast-send-one c =
-    let l = c .before .before .before in
+cast-cpu : tie.Need-cast-cpu Inv-loop μ-loop
+cast-cpu c =
+    let l = c .before .before in
     let s = l .before .before in
     omega (arith, s .pre .1 .1 .0 (l .loop .i) (omega arith), s .pre .0 .cpus)
 
-mul-send-one-2 : tie.Need-mul-send-one-2 Inv-loop μ-loop
-mul-send-one-2 c = omega arith
+mul-mark : tie.Need-mul-mark Inv-loop μ-loop
+mul-mark c = omega arith
 
-add-send-one : tie.Need-add-send-one Inv-loop μ-loop
-add-send-one c =
-    let s = c .before .before .before .before .before in
+add-mark : tie.Need-add-mark Inv-loop μ-loop
+add-mark c =
+    let s = c .before .before .before .before in
     omega (arith, range-ends (s .args .extents) _ (s .args .list) (2 * s .args .count) (s .good .0) (s .pre .1 .1 .1))
 
 send-one-requires : tie.Need-send-one-requires Inv-loop μ-loop
@@ -74,11 +74,11 @@ send-all-spec =
     Inv-loop
     μ-loop
     loop-holds
-    mul-send-one
-    element-copy-out-send-one
-    cast-send-one
-    mul-send-one-2
-    add-send-one
+    mul-cpu
+    element-copy-out-cpu
+    cast-cpu
+    mul-mark
+    add-mark
     send-one-requires
     add-i
     loop-less

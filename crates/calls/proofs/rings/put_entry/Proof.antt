@@ -40,12 +40,12 @@ next-tail-requires c κs = (found (c .before) .tail-below, found (c .before) .mo
 returns : tie.Need-returns
 returns c = search put-full
 
-cast-t29 : tie.Need-cast-t29
-cast-t29 c = search needs
+cast-at : tie.Need-cast-at
+cast-at c = search needs
 
-add-t30 : tie.Need-add-t30
-add-t30 c =
-    let d = c .before .before .before .before .before .before .before in
+add-at : tie.Need-add-at
+add-at c =
+    let d = c .before .before .before .before .before .before in
     let s = d .before .before .before .before .before in
     let r = found d in
     omega (arith, r .tail-below, range-ends (s .args .extents) _ _ _ (s .good .0) (r .within))
@@ -81,8 +81,8 @@ put-entry-spec =
     enum-known-held
     next-tail-requires
     returns
-    cast-t29
-    add-t30
+    cast-at
+    add-at
     write-at-requires
     with-queue-requires
     returns-2

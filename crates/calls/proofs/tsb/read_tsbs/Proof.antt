@@ -28,14 +28,14 @@ loop-holds c =
     let e = c .blank-tsbs .ensures in
     (omega arith, ap length e, listed-none _ _ ∙ ap granted (sym e))
 
-cast-t12 : tie.Need-cast-t12 Inv-loop μ-loop
-cast-t12 c = omega arith
+cast-at : tie.Need-cast-at Inv-loop μ-loop
+cast-at c = omega arith
 
-mul-t13 : tie.Need-mul-t13 Inv-loop μ-loop
-mul-t13 c = omega arith
+mul-at : tie.Need-mul-at Inv-loop μ-loop
+mul-at c = omega arith
 
-add-t14 : tie.Need-add-t14 Inv-loop μ-loop
-add-t14 c =
+add-at : tie.Need-add-at Inv-loop μ-loop
+add-at c =
     let s = c .before .before .before .before in
     omega (arith, range-ends (s .args .extents) _ (s .args .pointer) (32 * s .args .count) (s .good .0) (s .pre .1 .1))
 
@@ -85,9 +85,9 @@ read-tsbs-spec =
     μ-loop
     blank-tsbs-requires
     loop-holds
-    cast-t12
-    mul-t13
-    add-t14
+    cast-at
+    mul-at
+    add-at
     descriptor-at-requires
     judge-tsb-requires
     is-right-requires
