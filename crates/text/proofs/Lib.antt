@@ -1,0 +1,9 @@
+pub mod Stores
+pub mod PrintLaws
+pub mod PieceLaws
+pub mod NumberLaws
+pub mod ImageLaws
+pub mod GatherLaws
+pub mod EventLaws
+pub mod RightLaws
+pub mod LineLaws

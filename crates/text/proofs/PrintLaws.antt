@@ -1,0 +1,175 @@
+-- Laws of printing: the five numbers of an answer, a number's digits, and numbers in a row.
+use mathlib.Core.Path.{_≡_, refl, _∙_}
+use mathlib.Core.List.{List, [], _∷_, _++_, append-assoc}
+use mathlib.Core.Logic.{⊎-elim}
+use Prim.Native.Nat.{ℕ, zero, suc, _+_, _-_, _*_, _/_, _%_, _^_, _<_, _≤_}
+use native.Mathlib.Nat.{zero-add, pow-suc}
+use native.Mathlib.Numerals.{add-one}
+use native.Mathlib.Omega.{arith}
+use lib.ListN.{length, getD, take, set, length-append}
+use lib.Seq.{sets, set-set}
+use borrow.Author.Tests.{lt-ltb, le-ltb}
+use Rattle.rules.specs.declared.Answer.{Answer}
+use Rattle.rules.specs.declared.Answer.the-variants.{Done, One, Two, Refused}
+use Rattle.rules.specs.declared.Refusal.{Refusal}
+use Rattle.rules.specs.Statuses.{statusOf, numbers}
+use Rattle.rules.specs.Text.{space, lineFeed, digitByte, hexOf, hex, spaced}
+use Rattle.text.proofs.Stores.{sets-append, lt-or-ge}
+use Rattle.text.specs.Printed.{numbersText, answerText, statusText}
+
+-- the five numbers
+module _ (a : Answer) where
+  pub numbers-done : a ≡ Done → 0 ∷ 0 ∷ 0 ∷ 0 ∷ 0 ∷ [] ≡ numbers a
+  unfolding numbers
+  numbers-done e = rw e
+
+  pub numbers-one : (v : ℕ) → a ≡ One v → 0 ∷ v ∷ 0 ∷ 0 ∷ 0 ∷ [] ≡ numbers a
+  unfolding numbers
+  numbers-one v e = rw e
+
+  pub numbers-two : (v w : ℕ) → a ≡ Two v w → 0 ∷ v ∷ w ∷ 0 ∷ 0 ∷ [] ≡ numbers a
+  unfolding numbers
+  numbers-two v w e = rw e
+
+  pub numbers-refused : (why : Refusal) (s : ℕ) → a ≡ Refused why → s ≡ statusOf why → s ∷ 0 ∷ 0 ∷ 0 ∷ 0 ∷ [] ≡ numbers a
+  unfolding numbers
+  numbers-refused why s e f = rw (e, f)
+
+-- one digit, and one more digit
+one-digit : (k n : ℕ) → n < 16 → hexOf (suc k) n ≡ digitByte n ∷ []
+unfolding hexOf
+one-digit k n h = rw (lt-ltb n 16 h)
+
+more-digits : (k n : ℕ) → 16 ≤ n → hexOf (suc k) n ≡ hexOf k (n / 16) ++ (digitByte (n % 16) ∷ [])
+unfolding hexOf
+more-digits k n h = rw (le-ltb n 16 h)
+
+-- more room than a number has digits changes nothing
+enough : (k n : ℕ) → n < 16 ^ suc k → hexOf (suc (suc k)) n ≡ hexOf (suc k) n
+enough zero n h = rw (one-digit 1 n (omega arith), one-digit 0 n (omega arith))
+enough (suc k) n h =
+    ⊎-elim (λ l. rw (one-digit (suc (suc k)) n l, one-digit (suc k) n l))
+    (λ g. rw (more-digits (suc (suc k)) n g, more-digits (suc k) n g, enough k (n / 16) (omega (arith, pow-suc 16 (suc k)))))
+    (lt-or-ge n 16)
+
+-- at most k digits
+hex-most : (k n : ℕ) → length (hexOf k n) ≤ k
+unfolding hexOf
+hex-most zero n = omega arith
+hex-most (suc k) n =
+    ⊎-elim (λ l. rw (one-digit k n l) (omega arith))
+    (λ g. rw (more-digits k n g, length-append) (omega (arith, hex-most k (n / 16))))
+    (lt-or-ge n 16)
+
+-- the last digit of a number of 64 bits
+hex-last : (n : ℕ) → 16 ≤ n → n < 2 ^ 64 → hex n ≡ hex (n / 16) ++ (digitByte (n % 16) ∷ [])
+hex-last n h f = rw (more-digits 15 n h, enough 14 (n / 16) (omega arith))
+
+-- what `put_hex` writes over m, and that it has room
+module _ (m : List ℕ) (at n : ℕ) (room : at + length (hex n) ≤ 96) where
+  module _ (h : n < 16) where
+    pub hex-place : at < 96
+    hex-place = omega (arith, rw (one-digit 15 n h) at room)
+
+    pub hex-few : (d : ℕ) → d ≡ digitByte n → (at + 1 ≡ at + length (hex n)) × (set m at d ≡ sets m at (hex n))
+    hex-few d e = rw (one-digit 15 n h, e) (refl, refl)
+
+  module _ (h : 16 ≤ n) (f : n < 2 ^ 64) where
+    pub hex-fits : at + length (hex (n / 16)) < 96
+    hex-fits = omega (arith, rw (hex-last n h f, length-append) at room)
+
+    pub hex-more : (r d : ℕ) (o : List ℕ) → (r ≡ at + length (hex (n / 16))) × (o ≡ sets m at (hex (n / 16))) → d ≡ digitByte (n % 16)
+        → (r + 1 ≡ at + length (hex n)) × (set o r d ≡ sets m at (hex n))
+    hex-more r d o w e =
+        rw (hex-last n h f, length-append)
+        (omega arith, rw (w .0, w .1, e) (sets-append (hex (n / 16)) (digitByte (n % 16) ∷ []) m at))
+
+-- the first i numbers, each with a space behind it
+unfoldable pub trailed : List ℕ → ℕ → List ℕ
+trailed ns zero = []
+trailed ns (suc i) = (trailed ns i ++ hex (getD ns i 0)) ++ (space ∷ [])
+
+spaced-next : (ns : List ℕ) (j : ℕ) → suc j < length ns → spaced (take (suc (suc j)) ns) ≡ spaced (take (suc j) ns) ++ (space ∷ hex (getD ns (suc j) 0))
+unfolding spaced
+spaced-next [] j h = absurd (omega arith)
+spaced-next (n ∷ []) j h = absurd (omega arith)
+spaced-next (n ∷ (m ∷ ms)) zero h = refl
+spaced-next (n ∷ (m ∷ ms)) (suc j) h = rw (spaced-next (m ∷ ms) j (omega arith), append-assoc)
+
+trailed-spaced : (ns : List ℕ) (j : ℕ) → j < length ns → trailed ns (suc j) ≡ spaced (take (suc j) ns) ++ (space ∷ [])
+unfolding trailed spaced
+trailed-spaced [] j h = absurd (omega arith)
+trailed-spaced (n ∷ ns) zero h = refl
+trailed-spaced (n ∷ ns) (suc j) h =
+    rw (trailed-spaced (n ∷ ns) j (omega arith), spaced-next (n ∷ ns) j h) (simp append-assoc)
+
+trailed-most : (ns : List ℕ) (i : ℕ) → length (trailed ns i) ≤ 17 * i
+unfolding trailed
+trailed-most ns zero = omega arith
+trailed-most ns (suc i) = simp length-append (omega (arith, trailed-most ns i, hex-most 16 (getD ns i 0)))
+
+-- a line feed over the last space
+feed-over : (x m : List ℕ) → set (sets m 0 (x ++ (space ∷ []))) (length x) lineFeed ≡ sets m 0 (x ++ (lineFeed ∷ []))
+feed-over x m =
+    let put : (v : ℕ) → set (sets m 0 x) (length x) v ≡ sets m 0 (x ++ (v ∷ [])) = λ v. simp zero-add at (sets-append x (v ∷ []) m 0) in
+    rw (← put space, ← put lineFeed, set-set)
+
+fed : (ns m : List ℕ) (j : ℕ) → j < length ns
+    → (length (trailed ns (suc j)) ≡ length (numbersText (suc j) ns)) × (set (sets m 0 (trailed ns (suc j))) (length (trailed ns (suc j)) - 1) lineFeed ≡ sets m 0 (numbersText (suc j) ns))
+unfolding numbersText
+fed ns m j h =
+    let x : List ℕ = spaced (take (suc j) ns) in
+    let e : length (x ++ (space ∷ [])) - 1 ≡ length x = rw length-append (omega arith) in
+    rw (trailed-spaced ns j h, e) (rw (length-append, length-append), feed-over x m)
+
+-- what `put_numbers` writes, of numbers ns over m
+module _ (ns m : List ℕ) where
+  pub trailed-start : (0 ≡ length (trailed ns 0)) × (m ≡ sets m 0 (trailed ns 0))
+  unfolding trailed
+  trailed-start = (refl, refl)
+
+  module _ (i at : ℕ) (o : List ℕ) (a : at ≡ length (trailed ns i)) (b : o ≡ sets m 0 (trailed ns i)) where
+    pub trailed-room : i < 5 → at + length (hex (getD ns i 0)) < 96
+    trailed-room h = omega (arith, trailed-most ns i, hex-most 16 (getD ns i 0))
+
+    pub trailed-next : (r : ℕ) (p : List ℕ) → (r ≡ at + length (hex (getD ns i 0))) × (p ≡ sets o at (hex (getD ns i 0)))
+        → (r + 1 ≡ length (trailed ns (i + 1))) × (set p r space ≡ sets m 0 (trailed ns (i + 1)))
+    unfolding trailed
+    trailed-next r p w =
+        let t : List ℕ = trailed ns i in
+        let h : List ℕ = hex (getD ns i 0) in
+        let e : p ≡ sets m 0 (t ++ h) = rw (w .1, a, b) (simp zero-add at (sets-append t h m 0)) in
+        let l : r ≡ length (t ++ h) = w .0 ∙ rw (a, length-append) in
+        rw (add-one i, length-append) (omega arith, rw (e, l) (simp zero-add at (sets-append (t ++ h) (space ∷ []) m 0)))
+
+    module _ (count : ℕ) (u : i ≤ count) (v : count ≤ i) (f : 1 ≤ count) where
+      pub trailed-some : (1 ≤ at) × (at ≤ 17 * i)
+      unfolding trailed
+      trailed-some = (go i refl a, omega (arith, trailed-most ns i))
+        where
+          go : (k : ℕ) → k ≡ i → at ≡ length (trailed ns k) → 1 ≤ at
+          go zero q e = absurd (omega arith)
+          go (suc j) q e = omega (arith, simp length-append at e)
+
+      pub trailed-end : count ≤ length ns → (at ≡ length (numbersText count ns)) × (set o (at - 1) lineFeed ≡ sets m 0 (numbersText count ns))
+      trailed-end l = go count f (omega arith) l
+        where
+          go : (k : ℕ) → 1 ≤ k → i ≡ k → k ≤ length ns → (at ≡ length (numbersText k ns)) × (set o (at - 1) lineFeed ≡ sets m 0 (numbersText k ns))
+          go zero g q n = absurd (omega arith)
+          go (suc j) g q n = rw (b, a, q) (fed ns m j n)
+
+-- a line of five numbers, and of one
+answer-line : (a : Answer) → numbersText 5 (numbers a) ≡ answerText a
+unfolding numbersText answerText numbers
+answer-line Done = refl
+answer-line (One v) = refl
+answer-line (Two v w) = refl
+answer-line (Refused why) = refl
+
+module _ (a : Answer) (ns m : List ℕ) (e : ns ≡ numbers a) (r : ℕ) (o : List ℕ) where
+  pub answer-printed : (r ≡ length (numbersText 5 ns)) × (o ≡ sets m 0 (numbersText 5 ns)) → (r ≡ length (answerText a)) × (o ≡ sets m 0 (answerText a))
+  answer-printed w = rw (← answer-line a, ← e) w
+
+  pub status-printed : (r ≡ length (numbersText 1 ns)) × (o ≡ sets m 0 (numbersText 1 ns)) → (r ≡ length (statusText a)) × (o ≡ sets m 0 (statusText a))
+  unfolding statusText numbersText
+  status-printed w = rw e at w

@@ -1,0 +1,77 @@
+-- `print::put_hex` meets its contract: a last digit behind the number that is left without it, which is smaller.
+use native.Mathlib.Omega.{arith}
+use Rattle.text.proofs.PrintLaws.{hex-place, hex-few, hex-fits, hex-more}
+use mathlib.Core.List.{[]}
+use native.Mathlib.Nat.{le-of-lt}
+use Prim.Native.Nat.{ℕ, _<_}
+use borrow.Fn.Kinds.{In}
+use borrow.Fn.PlainCycle.{Measures, is, falls, and}
+use Rattle.text.proofs.print.put_hex.Reads as put-hex
+use Rattle.text.proofs.print.put_hex.Kinds as put-hex-kinds
+use Rattle.text.proofs.print.+put_hex.Lts-put_hex as lts
+use Rattle.text.proofs.print.digit_byte.Reads as digit-byte-reads
+use Rattle.text.proofs.print.+put_hex.{statement}
+use Rattle.text.proofs.print.+put_hex.Tie.{close}
+
+abbrev μ-put-hex : Measures 1 put-hex-kinds.ps ℕ
+μ-put-hex κs a = a .0
+
+-- what `put_hex` is given at the measure t, and what a call of it asks below t
+abbrev put-hex-at : ℕ → In 1 put-hex-kinds.ps
+put-hex-at t = and 1 put-hex-kinds.ps (is 1 put-hex-kinds.ps μ-put-hex t) put-hex.Pre
+
+abbrev put-hex-below : ℕ → In 1 put-hex-kinds.ps
+put-hex-below t = and 1 put-hex-kinds.ps (falls 1 put-hex-kinds.ps _<_ μ-put-hex t) put-hex.Pre
+
+abbrev claims : ℕ → lts.Claims
+claims t = (digit-byte-reads.Asked, digit-byte-reads.Learnt, put-hex-below t, put-hex.Post)
+
+cast-digit-byte : (t : ℕ) → lts.Need-cast-digit-byte (claims t) (put-hex-at t) put-hex.Post
+cast-digit-byte t c = omega arith
+
+digit-byte-requires : (t : ℕ) → lts.Need-digit-byte-requires (claims t) (put-hex-at t) put-hex.Post
+digit-byte-requires t c κs = omega arith
+
+element-write-out : (t : ℕ) → lts.Need-element-write-out (claims t) (put-hex-at t) put-hex.Post
+element-write-out t c = hex-place [] _ _ (c .before .before .pre .1) (omega arith)
+
+add-result : (t : ℕ) → lts.Need-add-result (claims t) (put-hex-at t) put-hex.Post
+add-result t c = omega (arith, hex-place [] _ _ (c .before .before .pre .1) (omega arith))
+
+returns : (t : ℕ) → lts.Need-returns (claims t) (put-hex-at t) put-hex.Post
+returns t c = hex-few _ _ _ (c .before .before .pre .1) (omega arith) _ (c .digit-byte .ensures)
+
+put-hex-requires : (t : ℕ) → lts.Need-put-hex-requires (claims t) (put-hex-at t) put-hex.Post
+put-hex-requires t c κs = (omega arith, le-of-lt (hex-fits [] _ _ (c .before .before .pre .1) (omega arith) (omega arith)))
+
+cast-digit-byte-2 : (t : ℕ) → lts.Need-cast-digit-byte-2 (claims t) (put-hex-at t) put-hex.Post
+cast-digit-byte-2 t c = omega arith
+
+digit-byte-requires-2 : (t : ℕ) → lts.Need-digit-byte-requires-2 (claims t) (put-hex-at t) put-hex.Post
+digit-byte-requires-2 t c κs = omega arith
+
+element-write-out-2 : (t : ℕ) → lts.Need-element-write-out-2 (claims t) (put-hex-at t) put-hex.Post
+element-write-out-2 t c = omega (arith, hex-fits [] _ _ (c .before .before .before .before .pre .1) (omega arith) (omega arith))
+
+add-result-2 : (t : ℕ) → lts.Need-add-result-2 (claims t) (put-hex-at t) put-hex.Post
+add-result-2 t c = omega (arith, hex-fits [] _ _ (c .before .before .before .before .pre .1) (omega arith) (omega arith))
+
+returns-2 : (t : ℕ) → lts.Need-returns-2 (claims t) (put-hex-at t) put-hex.Post
+returns-2 t c =
+    hex-more _ _ _ (c .before .before .before .before .pre .1) (omega arith) (omega arith) _ _ _ (c .before .put-hex .ensures) (c .digit-byte2 .ensures)
+
+pub +put-hex-spec : {M : Type 1} → statement M
++put-hex-spec = close μ-put-hex λ t. lts.spec (claims t)
+    (put-hex-at t)
+    put-hex.Post
+    (cast-digit-byte t)
+    (digit-byte-requires t)
+    (element-write-out t)
+    (add-result t)
+    (returns t)
+    (put-hex-requires t)
+    (cast-digit-byte-2 t)
+    (digit-byte-requires-2 t)
+    (element-write-out-2 t)
+    (add-result-2 t)
+    (returns-2 t)

@@ -1,0 +1,22 @@
+-- The lines that the session program prints, each with its line feed.
+use Prim.Native.Nat.{ℕ}
+use mathlib.Core.List.{List, [], _∷_, _++_}
+use lib.ListN.{take}
+use Rattle.rules.specs.declared.Answer.{Answer}
+use Rattle.rules.specs.Statuses.{numbers}
+use Rattle.rules.specs.Text.{lineFeed, badWord, spaced}
+
+-- the first so many of these numbers
+unfoldable pub numbersText : ℕ → List ℕ → List ℕ
+numbersText count ns = spaced (take count ns) ++ (lineFeed ∷ [])
+
+-- an event's "status and four values"
+unfoldable pub answerText : Answer → List ℕ
+answerText answer = spaced (numbers answer) ++ (lineFeed ∷ [])
+
+-- an image's status alone
+unfoldable pub statusText : Answer → List ℕ
+statusText answer = spaced (take 1 (numbers answer)) ++ (lineFeed ∷ [])
+
+abbrev pub badText : List ℕ
+badText = badWord ++ (lineFeed ∷ [])

@@ -1,0 +1,107 @@
+// What the session program prints: "all lower-case hex, no leading zeros", numbers parted by one space.
+ghost use mathlib.Core.Path.{_≡_};
+ghost use Prim.Native.Nat.{_+_, _<_, _≤_};
+ghost use lib.ListN.{length};
+ghost use lib.Seq.{sets};
+ghost use Rattle.rules.specs.Statuses.{statusOf, numbers};
+ghost use Rattle.rules.specs.Text.{digitByte, hex};
+ghost use Rattle.text.specs.Printed.{numbersText, answerText, statusText, badText};
+use rules::Answer;
+use rules::Refusal;
+
+fn status_of(why: Refusal) -> u64
+    ensures { λ r. ⌜ r ≡ statusOf why ⌝ }
+{
+    match why {
+        Refusal::ENOCPU => 1,
+        Refusal::ENORADDR => 2,
+        Refusal::EBADPGSZ => 4,
+        Refusal::EBADTSB => 5,
+        Refusal::EINVAL => 6,
+        Refusal::EBADTRAP => 7,
+        Refusal::EBADALIGN => 8,
+        Refusal::EWOULDBLOCK => 9,
+        Refusal::ENOTSUPPORTED => 13,
+        Refusal::BadTables => 101,
+        Refusal::ShortMemory => 102,
+        Refusal::NoCaller => 103,
+        Refusal::NoSource => 104,
+        Refusal::ImageShort => 110,
+        Refusal::ImageBad => 111,
+    }
+}
+
+// An answer's status and four values.
+pub fn numbers_of(answer: Answer) -> [u64; 5]
+    ensures { λ r. ⌜ r ≡ numbers answer ⌝ }
+{
+    match answer {
+        Answer::Done => [0, 0, 0, 0, 0],
+        Answer::One(v) => [0, v, 0, 0, 0],
+        Answer::Two(v, w) => [0, v, w, 0, 0],
+        Answer::Refused(why) => [status_of(why), 0, 0, 0, 0],
+    }
+}
+
+fn digit_byte(d: u8) -> u8
+    requires { ⌜ d < 16 ⌝ }
+    ensures { λ r. ⌜ r ≡ digitByte d ⌝ }
+{
+    if d < 10 { 0x30 + d } else { 0x57 + d }
+}
+
+// Writes n from the place at on, its leading digits first, and gives the place behind it.
+fn put_hex(n: u64, at: usize, out: &mut [u8; 96]) -> usize
+    requires { ⌜ at + length (hex n) ≤ 96 ⌝ }
+    ensures { λ r. ⌜ (r ≡ at + length (hex n)) × (now (out .exit) ≡ sets (now (out .entry)) at (hex n)) ⌝ }
+{
+    if n < 16 {
+        out[at] = digit_byte(n as u8);
+        return at + 1;
+    }
+    let last = put_hex(n / 16, at, out);
+    out[last] = digit_byte((n % 16) as u8);
+    last + 1
+}
+
+// The first count numbers and a line feed. Each number is written with a space behind it, and the line feed over the last space.
+fn put_numbers(ns: [u64; 5], count: usize, out: &mut [u8; 96]) -> usize
+    requires { ⌜ (1 ≤ count) × (count ≤ 5) ⌝ }
+    ensures { λ r. ⌜ (r ≡ length (numbersText count ns)) × (now (out .exit) ≡ sets (now (out .entry)) 0 (numbersText count ns)) ⌝ }
+{
+    let mut at = 0;
+    let mut i = 0;
+    while i < count {
+        at = put_hex(ns[i], at, out);
+        out[at] = b' ';
+        at += 1;
+        i += 1;
+    }
+    out[at - 1] = b'\n';
+    at
+}
+
+// The answer to an event. Each put gives the number of bytes it wrote.
+pub fn put_answer(answer: Answer, out: &mut [u8; 96]) -> usize
+    ensures { λ r. ⌜ (r ≡ length (answerText answer)) × (now (out .exit) ≡ sets (now (out .entry)) 0 (answerText answer)) ⌝ }
+{
+    put_numbers(numbers_of(answer), 5, out)
+}
+
+// The answer to an image: the status alone.
+pub fn put_status(answer: Answer, out: &mut [u8; 96]) -> usize
+    ensures { λ r. ⌜ (r ≡ length (statusText answer)) × (now (out .exit) ≡ sets (now (out .entry)) 0 (statusText answer)) ⌝ }
+{
+    put_numbers(numbers_of(answer), 1, out)
+}
+
+// The answer to a line that is none.
+pub fn put_bad(out: &mut [u8; 96]) -> usize
+    ensures { λ r. ⌜ (r ≡ length badText) × (now (out .exit) ≡ sets (now (out .entry)) 0 badText) ⌝ }
+{
+    out[0] = b'b';
+    out[1] = b'a';
+    out[2] = b'd';
+    out[3] = b'\n';
+    4
+}
