@@ -1,0 +1,62 @@
+-- Promise: no second outcome. Over each public function's own contract, as its source states it: two results that meet it, and
+-- two last contents of each lent buffer, are equal.
+use mathlib.Core.Path.{_≡_, sym, _∙_}
+use mathlib.Core.List.{List}
+use Prim.Native.Nat.{ℕ}
+use denote.Ref.{now}
+use Rattle.rules.specs.Host.{HostOutcome}
+use Rattle.host.specs.declared.Settled.{Settled}
+use Rattle.host.specs.Settles.{Settles}
+use Rattle.image.proofs.load.Reads as load-reads
+use Rattle.tables.proofs.keep_rules.Reads as keep-rules-reads
+use Rattle.tables.proofs.long_enough.Reads as long-enough-reads
+use Rattle.host.proofs.event.Reads as event-reads
+use Rattle.host.proofs.kept_event.Reads as kept-event-reads
+use Rattle.text.proofs.parse_line.Reads as parse-line-reads
+use Rattle.text.proofs.image_bytes.Reads as image-bytes-reads
+use Rattle.text.proofs.numbers_of.Reads as numbers-of-reads
+use Rattle.text.proofs.put_answer.Reads as put-answer-reads
+use Rattle.text.proofs.put_status.Reads as put-status-reads
+use Rattle.text.proofs.put_bad.Reads as put-bad-reads
+
+-- image::load: the answer and the tables
+pub load-determined : (κs : _) (a : _) (r s : _) (ws vs : _) → load-reads.Post κs a r ws → load-reads.Post κs a s vs → r ≡ s
+load-determined κs a r s ws vs p q = p ∙ sym q
+
+-- tables::keep_rules and tables::long_enough: the checks of 101 and 102
+pub keep-rules-determined : (κs : _) (a : _) (r s : _) (ws vs : _) → keep-rules-reads.Post κs a r ws → keep-rules-reads.Post κs a s vs → r ≡ s
+keep-rules-determined κs a r s ws vs p q = p ∙ sym q
+
+pub long-enough-determined : (κs : _) (a : _) (r s : _) (ws vs : _) → long-enough-reads.Post κs a r ws → long-enough-reads.Post κs a s vs → r ≡ s
+long-enough-determined κs a r s ws vs p q = p ∙ sym q
+
+-- what settles as one outcome is one
+one-outcome : (o : HostOutcome) (r s : Settled) (m n : List ℕ) → Settles o r m → Settles o s n → (r ≡ s) × (m ≡ n)
+one-outcome o r s m n p q =
+    ((λ i. record { answer = (p .answer ∙ sym (q .answer)) i; tables = (p .tables ∙ sym (q .tables)) i }), p .memory ∙ sym (q .memory))
+
+-- host::event and host::kept_event: the answer, the tables, and every byte of memory
+pub event-determined : (κs : _) (a : _) (r s : _) (ws vs : _) → event-reads.Post κs a r ws → event-reads.Post κs a s vs → (r ≡ s) × (now (ws .1 .0) ≡ now (vs .1 .0))
+event-determined κs a r s ws vs p q = one-outcome _ r s _ _ p q
+
+pub kept-event-determined : (κs : _) (a : _) (r s : _) (ws vs : _) → kept-event-reads.Post κs a r ws → kept-event-reads.Post κs a s vs → (r ≡ s) × (now (ws .1 .0) ≡ now (vs .1 .0))
+kept-event-determined κs a r s ws vs p q = one-outcome _ r s _ _ p q
+
+-- text: what a line says, and the bytes of an image and of an answer in the lent buffer
+pub parse-line-determined : (κs : _) (a : _) (r s : _) (ws vs : _) → parse-line-reads.Post κs a r ws → parse-line-reads.Post κs a s vs → r ≡ s
+parse-line-determined κs a r s ws vs p q = p ∙ sym q
+
+pub image-bytes-determined : (κs : _) (a : _) (r s : _) (ws vs : _) → image-bytes-reads.Post κs a r ws → image-bytes-reads.Post κs a s vs → (r ≡ s) × (now (ws .1 .0) ≡ now (vs .1 .0))
+image-bytes-determined κs a r s ws vs p q = (p .0 ∙ sym (q .0), p .1 ∙ sym (q .1))
+
+pub numbers-of-determined : (κs : _) (a : _) (r s : _) (ws vs : _) → numbers-of-reads.Post κs a r ws → numbers-of-reads.Post κs a s vs → r ≡ s
+numbers-of-determined κs a r s ws vs p q = p ∙ sym q
+
+pub put-answer-determined : (κs : _) (a : _) (r s : _) (ws vs : _) → put-answer-reads.Post κs a r ws → put-answer-reads.Post κs a s vs → (r ≡ s) × (now (ws .1 .0) ≡ now (vs .1 .0))
+put-answer-determined κs a r s ws vs p q = (p .0 ∙ sym (q .0), p .1 ∙ sym (q .1))
+
+pub put-status-determined : (κs : _) (a : _) (r s : _) (ws vs : _) → put-status-reads.Post κs a r ws → put-status-reads.Post κs a s vs → (r ≡ s) × (now (ws .1 .0) ≡ now (vs .1 .0))
+put-status-determined κs a r s ws vs p q = (p .0 ∙ sym (q .0), p .1 ∙ sym (q .1))
+
+pub put-bad-determined : (κs : _) (a : _) (r s : _) (ws vs : _) → put-bad-reads.Post κs a r ws → put-bad-reads.Post κs a s vs → (r ≡ s) × (now (ws .0) ≡ now (vs .0))
+put-bad-determined κs a r s ws vs p q = (p .0 ∙ sym (q .0), p .1 ∙ sym (q .1))
