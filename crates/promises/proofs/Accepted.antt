@@ -1,26 +1,21 @@
 -- Promise: an accepted image gives tables that keep the rules.
-use mathlib.Core.Path.{_≡_, refl, sym, ap, _∙_}
-use mathlib.Core.Bool.{Bool, true, false, _&&_, not, false≢true}
+use mathlib.Core.Path.{_≡_, refl, ap, _∙_}
+use mathlib.Core.Bool.{Bool, true, false, _&&_, not}
 use mathlib.Core.List.{List, []}
 use Prim.Native.Nat.{ℕ, zero, suc, _+_, _*_, _≤_, _<_}
 use native.Mathlib.Omega.{arith}
-use native.Mathlib.Numerals.{add-one}
 use lib.Dec.{leb, ltb, eqb}
 use lib.ListN.{length, getD, set, replicate, take, getD-replicate, length-replicate, length-set}
 use lib.Seq.{getD-set-same, getD-set-other}
-use borrow.Author.Tests.{le-leb, leb-true, lt-ltb, le-ltb, ltb-true, ltb-false, eqb-true, eqb-false}
+use borrow.Author.Tests.{le-leb, leb-true, lt-ltb, ltb-true, ltb-false, eqb-true, eqb-false}
 use Rattle.rules.specs.declared.Cpu.{Cpu}
-use Rattle.rules.specs.declared.Extent.{Extent}
-use Rattle.rules.specs.declared.Extents.{Extents}
 use Rattle.rules.specs.declared.Guest.{Guest}
 use Rattle.rules.specs.declared.Plant.{Plant}
 use Rattle.rules.specs.declared.Refusal.{Refusal}
 use Rattle.rules.specs.declared.Refusal.the-variants.{ImageShort, ImageBad}
-use Rattle.rules.specs.declared.Source.{Source}
 use Rattle.rules.specs.declared.Tables.{Tables}
-use Rattle.rules.specs.declared.Target.{Target}
-use Rattle.rules.specs.Limits.{guestLimit, cpuLimit, extentLimit, sourceLimit, queueLimit, tsbLimit, devhandles, devinos}
-use Rattle.rules.specs.Scan.{allBelow, someBelow}
+use Rattle.rules.specs.Limits.{guestLimit, cpuLimit, extentLimit, sourceLimit, devhandles, devinos}
+use Rattle.rules.specs.Scan.{allBelow}
 use Rattle.rules.specs.Kept.{blankExtent, blankCpu, blankSource, blankGuest, hollowCpu, hollowGuest, noVersions, noGuests, guestAt, extentAt, cpuAt, sourceAt}
 use Rattle.rules.specs.Bits.{fieldAt, reaches}
 use Rattle.rules.specs.Real.{valid}
@@ -29,6 +24,7 @@ use Rattle.rules.specs.Image.{extentBits, sourceBits, countAt, filled, readExte
 use Rattle.rules.specs.Tables.{listRight, cpuBlank, cpuRight, sourceBlank, sourceRight, cookieRight, enabledRight, versionsRight, extentBlank, extentsKeep, plantKeeps, guestKeeps, guestBlank, keepRules}
 use Rattle.rules.proofs.Computing.{computing}
 use Rattle.rules.proofs.Scan.{all-at, all-of}
+use Rattle.rules.proofs.Tests.{and-left, and-right}
 use Rattle.bits.proofs.FieldLaws.{field-lt}
 use Rattle.partition.proofs.Filled.{fill-at}
 use Rattle.image.proofs.GuestLaws.{grants-tells}
@@ -46,14 +42,6 @@ then-rest false r x a e = let z : _≡_ {A = ℕ} 0 1 = cc in absurd (omega arit
 granted-same : {A : Type 0} (a b : A) → granted a ≡ granted b → a ≡ b
 granted-same a b e = cc
 
-and-first : (s t : Bool) → (s && t) ≡ true → s ≡ true
-and-first true t p = refl
-and-first false t p = p
-
-and-second : (s t : Bool) → (s && t) ≡ true → t ≡ true
-and-second true t p = p
-and-second false t p = absurd (false≢true p)
-
 -- a count lies within its limits
 module _ (bytes : List ℕ) (at n lo hi v : ℕ) (e : countAt bytes at n lo hi ≡ granted v) where
   abbrev limits : Bool
@@ -70,10 +58,10 @@ module _ (bytes : List ℕ) (at n lo hi v : ℕ) (e : countAt bytes at n lo hi �
   count-is = granted-same (fieldAt bytes at n) v (then-rest limits ImageBad (granted (fieldAt bytes at n)) v counted)
 
   count-least : lo ≤ v
-  count-least = rw count-is at (leb-true lo (fieldAt bytes at n) (and-first _ _ count-limits))
+  count-least = rw count-is at (leb-true lo (fieldAt bytes at n) (and-left _ _ count-limits))
 
   count-most : v ≤ hi
-  count-most = rw count-is at (leb-true (fieldAt bytes at n) hi (and-second (leb lo (fieldAt bytes at n)) _ count-limits))
+  count-most = rw count-is at (leb-true (fieldAt bytes at n) hi (and-right (leb lo (fieldAt bytes at n)) _ count-limits))
 
 -- a list that is right
 pub list-right : (limit count : ℕ) (right blank : ℕ → Bool) → count ≤ limit → ((i : ℕ) → i < count → right i ≡ true) → ((i : ℕ) → count ≤ i → i < limit → blank i ≡ true) → listRight limit count right blank ≡ true
