@@ -1,7 +1,7 @@
 -- Promise: an accepted image gives tables that keep the rules.
 use mathlib.Core.Path.{_≡_, refl, ap, _∙_}
 use mathlib.Core.Bool.{Bool, true, false, _&&_, not}
-use mathlib.Core.List.{List, []}
+use mathlib.Core.List.{List}
 use Prim.Native.Nat.{ℕ, zero, suc, _+_, _*_, _≤_, _<_}
 use native.Mathlib.Omega.{arith}
 use lib.Dec.{leb, ltb, eqb}
@@ -31,15 +31,15 @@ use Rattle.image.proofs.GuestLaws.{grants-tells}
 
 -- What a ruling that grants tells.
 
-then-tells : {A : Type 0} (t : Bool) (r : Refusal) (x : Ruling A) (a : A) → (t or-refuse r then x) ≡ granted a → t ≡ true
+pub then-tells : {A : Type 0} (t : Bool) (r : Refusal) (x : Ruling A) (a : A) → (t or-refuse r then x) ≡ granted a → t ≡ true
 then-tells true r x a e = refl
 then-tells false r x a e = let z : _≡_ {A = ℕ} 0 1 = cc in absurd (omega arith)
 
-then-rest : {A : Type 0} (t : Bool) (r : Refusal) (x : Ruling A) (a : A) → (t or-refuse r then x) ≡ granted a → x ≡ granted a
+pub then-rest : {A : Type 0} (t : Bool) (r : Refusal) (x : Ruling A) (a : A) → (t or-refuse r then x) ≡ granted a → x ≡ granted a
 then-rest true r x a e = e
 then-rest false r x a e = let z : _≡_ {A = ℕ} 0 1 = cc in absurd (omega arith)
 
-granted-same : {A : Type 0} (a b : A) → granted a ≡ granted b → a ≡ b
+pub granted-same : {A : Type 0} (a b : A) → granted a ≡ granted b → a ≡ b
 granted-same a b e = cc
 
 -- a count lies within its limits
@@ -74,7 +74,7 @@ list-right limit count right blank h f g =
     go i l false e = g i (ltb-false i count e) l
 
 -- the places of an array that is filled from the front, behind those that are
-past-blank : {A : Type 0} (size : ℕ) (blank : A) (i : ℕ) → getD (replicate size blank) i blank ≡ blank
+pub past-blank : {A : Type 0} (size : ℕ) (blank : A) (i : ℕ) → getD (replicate size blank) i blank ≡ blank
 past-blank zero blank i = refl
 past-blank (suc n) blank zero = refl
 past-blank (suc n) blank (suc i) = past-blank n blank i

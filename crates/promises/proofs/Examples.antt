@@ -1,7 +1,6 @@
 -- Promise: the rules answer as the paper's examples say. The list and its proof stand beside the rules they speak of, in
 -- crate rules, so that a wrong rule is refused there; this is the claim.
 use mathlib.Core.Path.{_≡_}
-use Rattle.rules.specs.declared.Loaded.{Loaded}
 use Rattle.rules.specs.declared.Answer.the-variants.{Done}
 use Rattle.rules.specs.Image.{load}
 use Rattle.rules.proofs.Examples.{cases, Hold, examples, workedImage, workedTables, worked-image}

@@ -5,7 +5,7 @@ use mathlib.Core.List.{List}
 use Prim.Native.Nat.{ℕ, _≤_, _<_}
 use native.Mathlib.Omega.{arith}
 use lib.Dec.{ltb}
-use lib.ListN.{length, getD}
+use lib.ListN.{length}
 use lib.Seq.{getD-set-other}
 use borrow.Author.Tests.{ltb-true}
 use Rattle.rules.specs.declared.Event.{Event}
@@ -15,7 +15,7 @@ use Rattle.rules.specs.declared.Tables.{Tables}
 use Rattle.rules.specs.Limits.{guestLimit, extentLimit}
 use Rattle.rules.specs.Kept.{guestAt, plantAt, extentsOf, hollowGuest}
 use Rattle.rules.specs.Real.{sightOf}
-use Rattle.rules.specs.Rulings.{refused, granted, outcomeOf}
+use Rattle.rules.specs.Rulings.{refused, outcomeOf}
 use Rattle.rules.specs.Tables.{keepRules}
 use Rattle.rules.specs.Host.{HostOutcome, plantRule, ownerOf, longEnough, answeredBy, hostRule, hostOutcomeOf, hostEvent}
 use Rattle.memory.specs.Cells.{cell}

@@ -1,0 +1,123 @@
+-- The queue calls, mondos among them, leave a record that keeps the rules.
+use mathlib.Core.Path.{_≡_, refl}
+use mathlib.Core.Bool.{Bool, true, false, _&&_, not}
+use mathlib.Core.List.{List, [], _∷_, _++_}
+use Prim.Native.Nat.{ℕ, zero, suc, _+_, _-_, _*_, _%_, _<_}
+use native.Mathlib.Omega.{arith}
+use lib.Dec.{leb, ltb, eqb}
+use borrow.Author.Tests.{leb-true, ltb-true, eqb-true}
+use Rattle.rules.specs.declared.Plant.{Plant}
+use Rattle.rules.specs.declared.QueueRecord.{QueueRecord}
+use Rattle.rules.specs.declared.Refusal.the-variants.{EINVAL, EBADALIGN, ENORADDR, ENOCPU}
+use Rattle.rules.specs.declared.Ring.{Ring}
+use Rattle.rules.specs.Limits.{queueLimit}
+use Rattle.rules.specs.Scan.{someBelow, allBelow}
+use Rattle.rules.specs.Kept.{cpuAt, queueAt, cpuWithQueue, withQueue, withHead, withTail}
+use Rattle.rules.specs.Real.{Sight, bytesFrom}
+use Rattle.rules.specs.Rulings.{Ruling, granted, Outcome, done, _or-refuse_then_, _grants_, if_then_else_}
+use Rattle.rules.specs.Queues.{isQueue, indexOf, newRing, hasRoom, nextTail, forward, ringOf, cpu-qconf, write-head}
+use Rattle.rules.specs.Mondo.{entryAt, entries, cpuMondo, sendTo, sendOne, sendAll, sentAs, cpu-mondo-send}
+use Rattle.rules.specs.Tables.{recordRight, ringRight, plantKeeps}
+use Rattle.rules.proofs.Scan.{all-at}
+use Rattle.rules.proofs.Tests.{and-left, and-right}
+use Rattle.promises.proofs.KeptPlants.{Kept, unchanged, further, cpu-there, cpu-replaced, queue-right, with-queue}
+use Rattle.promises.proofs.KeptRings.{new-ring-right, head-right, tail-right}
+use Rattle.promises.proofs.KeptRulings.{Fine, fine-then, fine-grants, fine-if}
+
+module _ (v : ℕ → ℕ → Bool) (plant : Plant) (e : plantKeeps v plant ≡ true) (cpu : ℕ) (there : cpu < plant .cpus) where
+  -- a queue's record replaced
+  pub queue-kept : (q : ℕ) (held : QueueRecord) → recordRight v held ≡ true → Kept v plant (withQueue plant cpu q held)
+  unfolding withQueue
+  queue-kept q held r = cpu-replaced v plant e cpu (cpuWithQueue (cpuAt plant cpu) q held) there (with-queue v (cpuAt plant cpu) (cpu-there v plant e cpu there) q held r)
+
+  -- a ring that is there is right
+  pub ring-there : (q : ℕ) (ring : Ring) → q < queueLimit → queueAt (cpuAt plant cpu) q ≡ QueueRecord.Set ring → ringRight v ring ≡ true
+  ring-there q ring h p = rw p at (queue-right v (cpuAt plant cpu) (cpu-there v plant e cpu there) q h)
+
+  pub qconf-fine : (queue base n : ℕ) → Fine v plant (cpu-qconf v plant cpu queue base n)
+  unfolding cpu-qconf
+  qconf-fine queue base n =
+      fine-then v plant e (isQueue queue) EINVAL
+      (if eqb n 0 then done (withQueue plant cpu (indexOf queue) QueueRecord.Unset) else (newRing v base n grants λ ring. done (withQueue plant cpu (indexOf queue) (QueueRecord.Set ring))))
+      (λ _. fine-if v plant (eqb n 0) (done (withQueue plant cpu (indexOf queue) QueueRecord.Unset)) (newRing v base n grants λ ring. done (withQueue plant cpu (indexOf queue) (QueueRecord.Set ring)))
+      (λ _. queue-kept (indexOf queue) QueueRecord.Unset refl)
+      (λ _. fine-grants v plant e (newRing v base n) (λ ring. done (withQueue plant cpu (indexOf queue) (QueueRecord.Set ring)))
+      (λ ring g. queue-kept (indexOf queue) (QueueRecord.Set ring) (new-ring-right v base n ring g))))
+
+  index-below : (queue : ℕ) → isQueue queue ≡ true → indexOf queue < queueLimit
+  index-below queue h = omega (arith, leb-true queue 0x3f (and-right (leb 0x3c queue) (leb queue 0x3f) h), leb-true 0x3c queue (and-left (leb 0x3c queue) (leb queue 0x3f) h))
+
+  ring-of : (held : QueueRecord) (ring : Ring) → ringOf held ≡ granted ring → held ≡ QueueRecord.Set ring
+  ring-of QueueRecord.Unset ring p = let z : _≡_ {A = ℕ} 0 1 = cc in absurd (omega arith)
+  ring-of (QueueRecord.Set r) ring p = cc
+
+  pub head-fine : (queue value : ℕ) → Fine v plant (write-head plant cpu queue value)
+  unfolding write-head
+  head-fine queue value =
+      fine-then v plant e (isQueue queue) EINVAL (ringOf (queueAt (cpuAt plant cpu) (indexOf queue)) grants λ ring. moves ring) (λ h.
+      fine-grants v plant e (ringOf (queueAt (cpuAt plant cpu) (indexOf queue))) moves (λ ring g.
+      fine-then v plant e (eqb (value % 64) 0) EBADALIGN ((ltb value (ring .size) && leb (forward ring value) (forward ring (ring .tail))) or-refuse EINVAL then moved ring) (λ m.
+      fine-then v plant e (ltb value (ring .size) && leb (forward ring value) (forward ring (ring .tail))) EINVAL (moved ring) (λ l.
+      queue-kept (indexOf queue) (QueueRecord.Set (withHead ring value))
+      (head-right v ring (ring-there (indexOf queue) ring (index-below queue h) (ring-of (queueAt (cpuAt plant cpu) (indexOf queue)) ring g)) value (eqb-true (value % 64) 0 m) (ltb-true value (ring .size) (and-left (ltb value (ring .size)) _ l)))))))
+    where
+      moved : Ring → Ruling Outcome
+      moved ring = done (withQueue plant cpu (indexOf queue) (QueueRecord.Set (withHead ring value)))
+
+      moves : Ring → Ruling Outcome
+      moves ring =
+          eqb (value % 64) 0 or-refuse EBADALIGN then
+          (ltb value (ring .size) && leb (forward ring value) (forward ring (ring .tail))) or-refuse EINVAL then
+          moved ring
+
+  -- one mondo
+  pub send-one : (packet : List ℕ) (mark : ℕ) → Kept v plant (sendOne plant cpu packet mark .plant)
+  unfolding sendOne
+  send-one packet mark = go (queueAt (cpuAt plant cpu) cpuMondo) refl
+    where
+      go : (held : QueueRecord) → queueAt (cpuAt plant cpu) cpuMondo ≡ held → Kept v plant (sendTo plant cpu packet mark held .plant)
+      go QueueRecord.Unset p = unchanged v plant e
+      go (QueueRecord.Set ring) p = room (hasRoom ring) refl
+        where
+          room : (t : Bool) → hasRoom ring ≡ t → Kept v plant (sendTo plant cpu packet mark (QueueRecord.Set ring) .plant)
+          room true q = rw q (queue-kept cpuMondo (QueueRecord.Set (withTail ring (nextTail ring))) (tail-right v ring (ring-there cpuMondo ring (omega arith) p)))
+          room false q = rw q (unchanged v plant e)
+
+-- every number of a list is below a limit
+abbrev Below : ℕ → List ℕ → Type 0
+Below n [] = Unit {0}
+Below n (c ∷ cs) = (c < n) × Below n cs
+
+below-more : (n c : ℕ) (cs : List ℕ) → Below n cs → c < n → Below n (cs ++ (c ∷ []))
+below-more n c [] b h = (h, tt)
+below-more n c (x ∷ xs) b h = (b .0, below-more n c xs (b .1) h)
+
+entries-below : (byte : ℕ → ℕ) (list n k : ℕ) → ((i : ℕ) → i < k → entryAt byte list i < n) → Below n (entries byte list k)
+unfolding entries
+entries-below byte list n zero f = tt
+entries-below byte list n (suc k) f = below-more n (entryAt byte list k) (entries byte list k) (entries-below byte list n k (λ i h. f i (omega arith))) (f k (omega arith))
+
+send-all : (v : ℕ → ℕ → Bool) (plant : Plant) → plantKeeps v plant ≡ true → (cpus packet : List ℕ) (mark : ℕ) → Below (plant .cpus) cpus → Kept v plant (sendAll plant cpus packet mark .plant)
+unfolding sendAll
+send-all v plant e [] packet mark b = unchanged v plant e
+send-all v plant e (c ∷ cs) packet mark b =
+    let one : Kept v plant (sendOne plant c packet mark .plant) = send-one v plant e c (b .0) packet mark in
+    further v plant (sendOne plant c packet mark .plant) (sendAll (sendOne plant c packet mark .plant) cs packet (mark + 2) .plant) one
+    (send-all v (sendOne plant c packet mark .plant) (one .keeps) cs packet (mark + 2) (rw (one .cpus) (b .1)))
+
+pub mondo-fine : (sight : Sight) (plant : Plant) → plantKeeps (sight .valid) plant ≡ true → (cpu count list at : ℕ) → Fine (sight .valid) plant (cpu-mondo-send sight plant cpu count list at)
+unfolding cpu-mondo-send
+mondo-fine sight plant e cpu count list at =
+    let v = sight .valid in
+    let last : Ruling Outcome = granted (sentAs (sendAll plant (entries (sight .byte) list count) (bytesFrom (sight .byte) at 64) list)) in
+    let cpus : Bool = allBelow count (λ i. ltb (entryAt (sight .byte) list i) (plant .cpus)) in
+    let caller : Bool = not (someBelow count (λ i. eqb (entryAt (sight .byte) list i) cpu)) in
+    let ranges : Bool = sight .valid at 64 && sight .valid list (2 * count) in
+    let aligned : Bool = eqb (at % 64) 0 && eqb (list % 2) 0 in
+    fine-then v plant e (leb 1 count && leb count 64) EINVAL (aligned or-refuse EBADALIGN then ranges or-refuse ENORADDR then caller or-refuse EINVAL then cpus or-refuse ENOCPU then last) (λ _.
+    fine-then v plant e aligned EBADALIGN (ranges or-refuse ENORADDR then caller or-refuse EINVAL then cpus or-refuse ENOCPU then last) (λ _.
+    fine-then v plant e ranges ENORADDR (caller or-refuse EINVAL then cpus or-refuse ENOCPU then last) (λ _.
+    fine-then v plant e caller EINVAL (cpus or-refuse ENOCPU then last) (λ _.
+    fine-then v plant e cpus ENOCPU last (λ h.
+    send-all v plant e (entries (sight .byte) list count) (bytesFrom (sight .byte) at 64) list
+    (entries-below (sight .byte) list (plant .cpus) count (λ i l. ltb-true (entryAt (sight .byte) list i) (plant .cpus) (all-at (λ i. ltb (entryAt (sight .byte) list i) (plant .cpus)) count i h l))))))))
