@@ -6,11 +6,12 @@ use Prim.Native.Nat.{ℕ, zero, suc, _≤_, _<_}
 use native.Mathlib.Omega.{arith}
 use lib.Dec.{leb, ltb}
 use lib.ListN.{getD, set}
-use borrow.Author.Tests.{leb-true, lt-ltb, le-ltb}
+use borrow.Author.Tests.{le-ltb}
 use Rattle.rules.specs.Rulings.{if_then_else_}
 use Rattle.rules.specs.Tables.{listRight}
 use Rattle.rules.proofs.Scan.{all-at}
-use Rattle.rules.proofs.Tests.{and-left, and-right}
+use Rattle.rules.proofs.Tests.{and-right}
+use Rattle.records.proofs.SoundLaws.{list-length, list-there}
 use Rattle.promises.proofs.Accepted.{list-right}
 
 -- what holds of the new element, and held at the place, holds at the place
@@ -21,27 +22,16 @@ set-either P (y ∷ ys) zero (suc j) x d f h = h
 set-either P (y ∷ ys) (suc i) zero x d f h = h
 set-either P (y ∷ ys) (suc i) (suc j) x d f h = set-either P ys i j x d (λ q. f (ap suc q)) h
 
--- a list that is right
-module _ (limit count : ℕ) (right blank : ℕ → Bool) (e : listRight limit count right blank ≡ true) where
-  pub right-length : count ≤ limit
-  unfolding listRight
-  right-length = leb-true _ _ (and-left _ _ e)
-
-  pub right-there : (i : ℕ) → i < count → right i ≡ true
-  unfolding listRight
-  right-there i h =
-      let l : count ≤ limit = right-length in
-      rw (lt-ltb i count h) at (all-at (λ i. if ltb i count then right i else blank i) limit i (and-right (leb count limit) _ e) (omega arith))
-
-  pub right-past : (i : ℕ) → count ≤ i → i < limit → blank i ≡ true
-  unfolding listRight
-  right-past i h l = rw (le-ltb i count h) at (all-at (λ i. if ltb i count then right i else blank i) limit i (and-right (leb count limit) _ e) l)
+-- a place behind those that are there, in a list that is right
+pub list-past : (limit count : ℕ) (right blank : ℕ → Bool) → listRight limit count right blank ≡ true → (i : ℕ) → count ≤ i → i < limit → blank i ≡ true
+unfolding listRight
+list-past limit count right blank e i h l = rw (le-ltb i count h) at (all-at (λ i. if ltb i count then right i else blank i) limit i (and-right (leb count limit) _ e) l)
 
 -- such a list with a place that is there replaced by an element that is right
 pub list-replaced : {A : Type 0} (limit count : ℕ) (right blank : A → Bool) (l : List A) (c : ℕ) (x d : A)
     → listRight limit count (λ i. right (getD l i d)) (λ i. blank (getD l i d)) ≡ true → c < count → right x ≡ true
     → listRight limit count (λ i. right (getD (set l c x) i d)) (λ i. blank (getD (set l c x) i d)) ≡ true
 list-replaced limit count right blank l c x d e h r =
-    list-right limit count (λ i. right (getD (set l c x) i d)) (λ i. blank (getD (set l c x) i d)) (right-length limit count _ _ e)
-    (λ i k. set-either (λ a. right a ≡ true) l c i x d (λ q. r) (right-there limit count (λ i. right (getD l i d)) (λ i. blank (getD l i d)) e i k))
-    (λ i k m. set-either (λ a. blank a ≡ true) l c i x d (λ q. absurd (omega arith)) (right-past limit count (λ i. right (getD l i d)) (λ i. blank (getD l i d)) e i k m))
+    list-right limit count (λ i. right (getD (set l c x) i d)) (λ i. blank (getD (set l c x) i d)) (list-length limit count _ _ e)
+    (λ i k. set-either (λ a. right a ≡ true) l c i x d (λ q. r) (list-there limit count (λ i. right (getD l i d)) (λ i. blank (getD l i d)) e i k))
+    (λ i k m. set-either (λ a. blank a ≡ true) l c i x d (λ q. absurd (omega arith)) (list-past limit count (λ i. right (getD l i d)) (λ i. blank (getD l i d)) e i k m))

@@ -18,7 +18,8 @@ use Rattle.rules.specs.Memory.{newStatistics}
 use Rattle.rules.specs.Tables.{listRight, cpuRight, cpuBlank, recordRight, tsbsRight, sourceRight, sourceBlank, versionsRight, plantKeeps}
 use Rattle.rules.proofs.Scan.{all-at, all-of}
 use Rattle.rules.proofs.Tests.{and-left, and-right}
-use Rattle.promises.proofs.KeptLists.{set-either, list-replaced, right-there}
+use Rattle.records.proofs.SoundLaws.{list-there}
+use Rattle.promises.proofs.KeptLists.{set-either, list-replaced}
 
 -- the parts of the rule
 module _ (v : ℕ → ℕ → Bool) (plant : Plant) (e : plantKeeps v plant ≡ true) where
@@ -41,10 +42,10 @@ module _ (v : ℕ → ℕ → Bool) (plant : Plant) (e : plantKeeps v plant ≡ 
   sources-part = and-right cpusPart sourcesPart (and-right (leb 1 (plant .cpus) && versionsRight (plant .versions)) _ e)
 
   pub cpu-there : (c : ℕ) → c < plant .cpus → cpuRight v (cpuAt plant c) ≡ true
-  cpu-there c h = right-there cpuLimit (plant .cpus) (λ c. cpuRight v (cpuAt plant c)) (λ c. cpuBlank (cpuAt plant c)) cpus-part c h
+  cpu-there c h = list-there cpuLimit (plant .cpus) (λ c. cpuRight v (cpuAt plant c)) (λ c. cpuBlank (cpuAt plant c)) cpus-part c h
 
   pub source-there : (i : ℕ) → i < plant .sources → sourceRight plant (sourceAt plant i) ≡ true
-  source-there i h = right-there sourceLimit (plant .sources) (λ i. sourceRight plant (sourceAt plant i)) (λ i. sourceBlank (sourceAt plant i)) sources-part i h
+  source-there i h = list-there sourceLimit (plant .sources) (λ i. sourceRight plant (sourceAt plant i)) (λ i. sourceBlank (sourceAt plant i)) sources-part i h
 
 -- a plant's record after, which keeps the rules and names the same sources
 pub record Kept (v : ℕ → ℕ → Bool) (plant after : Plant) : Type 0 where

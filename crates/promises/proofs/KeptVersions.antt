@@ -20,7 +20,8 @@ use Rattle.rules.specs.Versions.{groupOf, known, newest, majorOf, withMajor, di
 use Rattle.rules.specs.Tables.{listRight, cookieRight, enabledRight, sourceRight, sourceBlank, targetBlank, versionsRight, plantKeeps}
 use Rattle.rules.proofs.Tests.{and-left, and-right}
 use Rattle.promises.proofs.Accepted.{list-right}
-use Rattle.promises.proofs.KeptLists.{right-length, right-past}
+use Rattle.records.proofs.SoundLaws.{plant-sources}
+use Rattle.promises.proofs.KeptLists.{list-past}
 use Rattle.promises.proofs.KeptPlants.{Kept, first-part, cpus-part, sources-part, source-there}
 use Rattle.promises.proofs.KeptRulings.{Fine, fine-then}
 use Rattle.promises.proofs.KeptSources.{made, name-part, enabled-part, state-part, target-part, cookie-part}
@@ -33,10 +34,7 @@ module _ (v : ℕ → ℕ → Bool) (plant : Plant) (e : plantKeeps v plant ≡ 
   versions-right = and-right (leb 1 (plant .cpus)) (versionsRight (plant .versions)) (first-part v plant e)
 
   blank-past : (i : ℕ) → plant .sources ≤ i → i < sourceLimit → sourceBlank (sourceAt plant i) ≡ true
-  blank-past = right-past sourceLimit (plant .sources) (λ i. sourceRight plant (sourceAt plant i)) (λ i. sourceBlank (sourceAt plant i)) (sources-part v plant e)
-
-  sources-few : plant .sources ≤ sourceLimit
-  sources-few = right-length sourceLimit (plant .sources) (λ i. sourceRight plant (sourceAt plant i)) (λ i. sourceBlank (sourceAt plant i)) (sources-part v plant e)
+  blank-past = list-past sourceLimit (plant .sources) (λ i. sourceRight plant (sourceAt plant i)) (λ i. sourceBlank (sourceAt plant i)) (sources-part v plant e)
 
   -- other versions, under which the sources are right
   versions-kept : (n : Versions) → versionsRight n ≡ true → ((i : ℕ) → i < plant .sources → sourceRight (withVersions plant n) (sourceAt plant i) ≡ true) → Kept v plant (withVersions plant n)
@@ -44,7 +42,7 @@ module _ (v : ℕ → ℕ → Bool) (plant : Plant) (e : plantKeeps v plant ≡ 
   versions-kept n r f = record { keeps = rw (cpus-least, r, cpus-part v plant e) places; cpus = refl; sources = refl; named = λ i. (refl, refl) }
     where
       places : listRight sourceLimit (plant .sources) (λ i. sourceRight (withVersions plant n) (sourceAt plant i)) (λ i. sourceBlank (sourceAt plant i)) ≡ true
-      places = list-right sourceLimit (plant .sources) (λ i. sourceRight (withVersions plant n) (sourceAt plant i)) (λ i. sourceBlank (sourceAt plant i)) sources-few f blank-past
+      places = list-right sourceLimit (plant .sources) (λ i. sourceRight (withVersions plant n) (sourceAt plant i)) (λ i. sourceBlank (sourceAt plant i)) (plant-sources v plant e) f blank-past
 
   disabled-at : (i : ℕ) → getD (map disabled (plant .source)) i blankSource ≡ disabled (sourceAt plant i)
   disabled-at i = List·getD-map disabled (plant .source) i blankSource
@@ -70,7 +68,7 @@ module _ (v : ℕ → ℕ → Bool) (plant : Plant) (e : plantKeeps v plant ≡ 
     where
       places : listRight sourceLimit (plant .sources) (λ i. sourceRight (withVersions plant n) (getD (map disabled (plant .source)) i blankSource)) (λ i. sourceBlank (getD (map disabled (plant .source)) i blankSource)) ≡ true
       places =
-          list-right sourceLimit (plant .sources) (λ i. sourceRight (withVersions plant n) (getD (map disabled (plant .source)) i blankSource)) (λ i. sourceBlank (getD (map disabled (plant .source)) i blankSource)) sources-few
+          list-right sourceLimit (plant .sources) (λ i. sourceRight (withVersions plant n) (getD (map disabled (plant .source)) i blankSource)) (λ i. sourceBlank (getD (map disabled (plant .source)) i blankSource)) (plant-sources v plant e)
           (λ i h. ap (sourceRight (withVersions plant n)) (disabled-at i) ∙ f i h)
           (λ i h l. ap sourceBlank (disabled-at i) ∙ disabled-blank (sourceAt plant i) (blank-past i h l))
 
