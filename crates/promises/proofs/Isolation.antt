@@ -31,14 +31,14 @@ refused-at-entry tables memory event r e = rw e (refl, refl)
 
 module _ (tables : Tables) (memory : List ℕ) (event : Event) (keep : keepRules tables ≡ true) (long : longEnough tables (length memory) ≡ true) where
   -- what the owner's answer comes to
-  abbrev settled : Owner → HostOutcome
+  abbrev pub settled : Owner → HostOutcome
   settled w = hostOutcomeOf tables memory (answeredBy tables memory event w)
 
-  event-settled : hostEvent tables memory event ≡ settled (ownerOf tables event)
+  pub event-settled : hostEvent tables memory event ≡ settled (ownerOf tables event)
   unfolding hostEvent hostRule
   event-settled = rw (keep, long)
 
-  few : (g : ℕ) → g < tables .guests → guestAt tables g .extents .count ≤ extentLimit
+  pub few : (g : ℕ) → g < tables .guests → guestAt tables g .extents .count ≤ extentLimit
   few g h = extents-few _ (extents-keep tables keep g h)
 
   -- a host offset that is none of the owner's keeps its byte

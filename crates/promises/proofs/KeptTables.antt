@@ -43,16 +43,16 @@ module _ (tables : Tables) (keep : keepRules tables ≡ true) (g : ℕ) (there :
   guestsPart = listRight guestLimit (tables .guests) (λ j. guestKeeps (guestAt tables j)) (λ j. guestBlank (guestAt tables j))
 
   -- what the guests' lists tell of the whole host is what it was
-  extents-same : (j : ℕ) → guestAt next j .extents ≡ guestAt tables j .extents
+  pub extents-same : (j : ℕ) → guestAt next j .extents ≡ guestAt tables j .extents
   extents-same j = set-either (λ x. x .extents ≡ guestAt tables j .extents) (tables .guest) g j put hollowGuest (λ q. rw q) refl
 
-  sources-same : (j : ℕ) → plantAt next j .sources ≡ plantAt tables j .sources
+  pub sources-same : (j : ℕ) → plantAt next j .sources ≡ plantAt tables j .sources
   sources-same j = set-either (λ x. x .plant .sources ≡ plantAt tables j .sources) (tables .guest) g j put hollowGuest (λ q. rw q (k .sources)) refl
 
-  handle-same : (j i : ℕ) → sourceAt (plantAt next j) i .devhandle ≡ sourceAt (plantAt tables j) i .devhandle
+  pub handle-same : (j i : ℕ) → sourceAt (plantAt next j) i .devhandle ≡ sourceAt (plantAt tables j) i .devhandle
   handle-same j i = set-either (λ x. sourceAt (x .plant) i .devhandle ≡ sourceAt (plantAt tables j) i .devhandle) (tables .guest) g j put hollowGuest (λ q. rw q (k .named i .0)) refl
 
-  devino-same : (j i : ℕ) → sourceAt (plantAt next j) i .devino ≡ sourceAt (plantAt tables j) i .devino
+  pub devino-same : (j i : ℕ) → sourceAt (plantAt next j) i .devino ≡ sourceAt (plantAt tables j) i .devino
   devino-same j i = set-either (λ x. sourceAt (x .plant) i .devino ≡ sourceAt (plantAt tables j) i .devino) (tables .guest) g j put hollowGuest (λ q. rw q (k .named i .1)) refl
 
   run-same : (n : ℕ) → runAt next n ≡ runAt tables n

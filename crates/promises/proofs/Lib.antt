@@ -1,4 +1,6 @@
 pub mod Accepted
+pub mod Alone
+pub mod AloneSteps
 pub mod Determined
 pub mod Examples
 pub mod Isolation

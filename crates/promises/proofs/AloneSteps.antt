@@ -1,0 +1,165 @@
+-- One event, seen by one plant: what the host does for it is what the machine that has this plant alone does; what the host does
+-- for another is nothing to it.
+use mathlib.Core.Path.{_≡_, refl, sym, ap, _∙_, fun-ext}
+use mathlib.Core.Bool.{Bool, true, false, false≢true}
+use mathlib.Core.List.{List, [], _∷_}
+use Prim.Native.Nat.{ℕ, zero, suc, _*_, _/_, _%_, _≤_, _<_}
+use native.Mathlib.Omega.{arith}
+use lib.Dec.{ltb}
+use lib.ListN.{length, getD}
+use lib.Seq.{getD-set-same}
+use borrow.Author.Tests.{ltb-true, lt-ltb}
+use Rattle.rules.specs.declared.Event.{Event}
+use Rattle.rules.specs.declared.Extents.{Extents}
+use Rattle.rules.specs.declared.Guest.{Guest}
+use Rattle.rules.specs.declared.Owner.{Owner}
+use Rattle.rules.specs.declared.Plant.{Plant}
+use Rattle.rules.specs.declared.Tables.{Tables}
+use Rattle.rules.specs.Limits.{guestLimit, extentLimit}
+use Rattle.rules.specs.Scan.{allBelow, firstBelow}
+use Rattle.rules.specs.Kept.{guestAt, plantAt, extentAt, sourceAt, extentsOf, hollowGuest, withPlant}
+use Rattle.rules.specs.Real.{Sight, sightOf, valid, apply}
+use Rattle.rules.specs.Rulings.{Outcome, outcomeOf}
+use Rattle.rules.specs.Image.{runAt}
+use Rattle.rules.specs.Sources.{sysinoOf}
+use Rattle.rules.specs.Tables.{extentsKeep, keepRules}
+use Rattle.rules.specs.Host.{HostOutcome, plantRule, isFound, ownerFound, ownerOf, longEnough, hostEvent}
+use Rattle.memory.specs.Ready.{present}
+use Rattle.memory.proofs.Checked.{guest-ready, guest-distinct, guests-strangers}
+use Rattle.memory.proofs.Isolation.{sight-unmoved}
+use Rattle.memory.proofs.Sights.{after, own-sight}
+use Rattle.memory.proofs.Writes.{apply-length}
+use Rattle.tables.proofs.SoundTables.{guests-few, pages-apart, extents-keep, extents-ascend, plant-keeps}
+use Rattle.promises.proofs.Isolation.{settled, event-settled, few, isolation}
+use Rattle.promises.proofs.KeptPlants.{Kept}
+use Rattle.promises.proofs.KeptEvents.{plant-fine}
+use Rattle.promises.proofs.KeptTables.{extents-same, sources-same, handle-same, devino-same}
+
+-- The machine that has one plant alone: the plant's record, and its own real memory.
+pub record Machine : Type 0 where
+  pub plant : Plant
+  pub sight : Sight
+
+-- what it does with an event, and what it is afterwards
+abbrev pub did : Machine → Event → Outcome
+did m event = outcomeOf (m .plant) (plantRule (m .sight) (m .plant) event)
+
+abbrev pub moved : Machine → Event → Machine
+moved m event = record { plant = did m event .plant; sight = after (m .sight) (did m event .writes) }
+
+-- a guest of a host, taken alone: its record, and what it sees of the host's memory
+abbrev pub takenAlone : List ℕ → Guest → Machine
+takenAlone memory guest = record { plant = guest .plant; sight = sightOf (present (guest .extents)) memory }
+
+abbrev pub machineOf : Tables → List ℕ → ℕ → Machine
+machineOf tables memory g = takenAlone memory (guestAt tables g)
+
+-- What no event changes: how many guests there are, their extents, and their sources' names.
+pub record Steady (a b : Tables) : Type 0 where
+  pub guests : b .guests ≡ a .guests
+  pub extents : (j : ℕ) → guestAt b j .extents ≡ guestAt a j .extents
+  pub sources : (j : ℕ) → plantAt b j .sources ≡ plantAt a j .sources
+  pub handle : (j i : ℕ) → sourceAt (plantAt b j) i .devhandle ≡ sourceAt (plantAt a j) i .devhandle
+  pub devino : (j i : ℕ) → sourceAt (plantAt b j) i .devino ≡ sourceAt (plantAt a j) i .devino
+
+steady-same : (a : Tables) → Steady a a
+steady-same a = record { guests = refl; extents = λ j. refl; sources = λ j. refl; handle = λ j i. refl; devino = λ j i. refl }
+
+module _ (a b : Tables) (s : Steady a b) where
+  sysino-same : (j d i : ℕ) → sysinoOf (plantAt b j) d i ≡ sysinoOf (plantAt a j) d i
+  unfolding sysinoOf
+  sysino-same j d i = rw (s .sources j) (ap (firstBelow (plantAt a j .sources)) (fun-ext (λ k. rw (s .handle j k, s .devino j k))))
+
+  pub owner-same : (event : Event) → ownerOf b event ≡ ownerOf a event
+  unfolding ownerOf
+  owner-same (Event.Call c) = refl
+  owner-same (Event.Head h) = refl
+  owner-same (Event.Raise d) = rw (s .guests) (ap (λ (p : ℕ → Bool). ownerFound (firstBelow (a .guests) p)) (fun-ext (λ j. ap isFound (sysino-same j (d .devhandle) (d .devino)))))
+  owner-same (Event.Load l) = refl
+  owner-same (Event.Store x) = refl
+
+  run-same : (k : ℕ) → runAt b k ≡ runAt a k
+  unfolding runAt
+  run-same k = ap (λ (e : Extents). extentAt e (k % extentLimit)) (s .extents (k / extentLimit))
+
+  pub long-same : (n : ℕ) → longEnough b n ≡ longEnough a n
+  unfolding longEnough
+  long-same n = ap (allBelow (guestLimit * extentLimit)) (fun-ext (λ k. rw (run-same k)))
+
+module _ (tables : Tables) (memory : List ℕ) (event : Event) (keep : keepRules tables ≡ true) (long : longEnough tables (length memory) ≡ true) where
+  abbrev done : ℕ → Outcome
+  done g = did (machineOf tables memory g) event
+
+  fine : (g : ℕ) → g < tables .guests → Kept (valid (extentsOf tables g)) (plantAt tables g) (done g .plant)
+  fine g h = plant-fine (sightOf (extentsOf tables g) memory) (plantAt tables g) (plant-keeps tables keep g h) event
+
+  owner-steady : (w : Owner) → Steady tables (settled tables memory event keep long w .tables) × (length (settled tables memory event keep long w .memory) ≡ length memory)
+  owner-steady Owner.Nobody = (steady-same tables, refl)
+  owner-steady (Owner.Guest g) = go (ltb g (tables .guests)) refl
+    where
+      go : (t : Bool) → ltb g (tables .guests) ≡ t → Steady tables (settled tables memory event keep long (Owner.Guest g) .tables) × (length (settled tables memory event keep long (Owner.Guest g) .memory) ≡ length memory)
+      go true e =
+          let h : g < tables .guests = ltb-true g (tables .guests) e in
+          rw e (
+            record {
+              guests = refl;
+              extents = extents-same tables keep g h (done g .plant) (fine g h);
+              sources = sources-same tables keep g h (done g .plant) (fine g h);
+              handle = handle-same tables keep g h (done g .plant) (fine g h);
+              devino = devino-same tables keep g h (done g .plant) (fine g h);
+            },
+            apply-length (extentsOf tables g) (done g .writes) memory,
+          )
+      go false e = rw e (steady-same tables, refl)
+
+  pub event-steady : Steady tables (hostEvent tables memory event .tables) × (length (hostEvent tables memory event .memory) ≡ length memory)
+  event-steady = rw (event-settled tables memory event keep long) (owner-steady (ownerOf tables event))
+
+  module _ (g : ℕ) (h : g < tables .guests) where
+    -- a guest that is there has a place in the list
+    not-hollow : guestAt tables g ≡ hollowGuest → ⊥
+    unfolding extentsKeep
+    not-hollow q = false≢true (ap (λ (x : Guest). extentsKeep (x .extents)) (sym q) ∙ extents-keep tables keep g h)
+
+    placed : {A : Type 0} (l : List A) (i : ℕ) (d : A) → (getD l i d ≡ d → ⊥) → i < length l
+    placed [] i d f = absurd (f refl)
+    placed (x ∷ xs) zero d f = omega arith
+    placed (x ∷ xs) (suc i) d f = let r : i < length xs = placed xs i d f in omega arith
+
+    own-machine : machineOf (withPlant tables g (done g .plant)) (apply (extentsOf tables g) memory (done g .writes)) g ≡ moved (machineOf tables memory g) event
+    own-machine =
+        let limit : tables .guests ≤ guestLimit = guests-few tables keep in
+        let counted : guestAt tables g .extents .count ≤ extentLimit = few tables memory event keep long g h in
+        ap (takenAlone (apply (extentsOf tables g) memory (done g .writes)))
+        (getD-set-same (tables .guest) g (record { extents = guestAt tables g .extents; plant = done g .plant }) hollowGuest (placed (tables .guest) g hollowGuest not-hollow))
+        ∙ ap (λ (s : Sight). record { plant = done g .plant; sight = s })
+        (own-sight (extentsOf tables g) (guest-distinct tables g (omega arith) counted (pages-apart tables keep)) (done g .writes) memory
+        (guest-ready tables g (omega arith) counted (length memory) (extents-ascend _ (extents-keep tables keep g h)) long .long))
+
+    -- An event of its own: the host answers as the machine does, and leaves what it leaves.
+    pub own-step : ownerOf tables event ≡ Owner.Guest g
+        → (hostEvent tables memory event .answer ≡ done g .answer)
+        × (machineOf (hostEvent tables memory event .tables) (hostEvent tables memory event .memory) g ≡ moved (machineOf tables memory g) event)
+    own-step o = rw (event-settled tables memory event keep long, o, lt-ltb g (tables .guests) h) (refl, own-machine)
+
+    -- An event of another: the machine is what it was.
+    others-sight : (w : Owner) → (w ≡ Owner.Guest g → ⊥) → sightOf (extentsOf tables g) (settled tables memory event keep long w .memory) ≡ sightOf (extentsOf tables g) memory
+    others-sight Owner.Nobody other = refl
+    others-sight (Owner.Guest f) other = go (ltb f (tables .guests)) refl
+      where
+        go : (t : Bool) → ltb f (tables .guests) ≡ t → sightOf (extentsOf tables g) (settled tables memory event keep long (Owner.Guest f) .memory) ≡ sightOf (extentsOf tables g) memory
+        go true e =
+            let limit : tables .guests ≤ guestLimit = guests-few tables keep in
+            let there : f < tables .guests = ltb-true f (tables .guests) e in
+            rw e
+            (sight-unmoved (extentsOf tables f) (extentsOf tables g)
+            (guests-strangers tables f g (omega arith) (omega arith) (few tables memory event keep long f there) (few tables memory event keep long g h) (pages-apart tables keep)
+            (λ q. other (ap Owner.Guest q)))
+            (done f .writes) memory)
+        go false e = rw e
+
+    pub other-step : (ownerOf tables event ≡ Owner.Guest g → ⊥) → machineOf (hostEvent tables memory event .tables) (hostEvent tables memory event .memory) g ≡ machineOf tables memory g
+    other-step other =
+        ap (takenAlone (hostEvent tables memory event .memory)) (isolation tables memory event keep long g h other .0)
+        ∙ ap (λ (s : Sight). record { plant = plantAt tables g; sight = s })
+        (ap (λ (o : HostOutcome). sightOf (extentsOf tables g) (o .memory)) (event-settled tables memory event keep long) ∙ others-sight (ownerOf tables event) other)
