@@ -1,5 +1,5 @@
 -- Promise: an accepted image gives tables that keep the rules.
-use mathlib.Core.Path.{_≡_, refl, ap, _∙_}
+use mathlib.Core.Path.{_≡_, refl, sym, ap, subst, _∙_}
 use mathlib.Core.Bool.{Bool, true, false, _&&_, not}
 use mathlib.Core.List.{List}
 use Prim.Native.Nat.{ℕ, zero, suc, _+_, _*_, _≤_, _<_}
@@ -85,17 +85,17 @@ fill-past size blank f zero i h = past-blank size blank i
 fill-past size blank f (suc n) i h = getD-set-other (filled size blank f n) n i (f n) blank (λ q. omega arith) ∙ fill-past size blank f n i (omega arith)
 
 -- a guest as an image gives it
-record Fresh (g : Guest) : Type 0 where
-  cpus-least : 1 ≤ g .plant .cpus
-  cpus-most : g .plant .cpus ≤ cpuLimit
-  extents-least : 1 ≤ g .extents .count
-  extents-most : g .extents .count ≤ extentLimit
-  sources-most : g .plant .sources ≤ sourceLimit
-  versions : g .plant .versions ≡ noVersions
-  cpu : g .plant .cpu ≡ replicate cpuLimit blankCpu
-  extent-past : (i : ℕ) → g .extents .count ≤ i → extentAt (g .extents) i ≡ blankExtent
-  source-read : (i : ℕ) → i < g .plant .sources → (bytes : List ℕ) × (at : ℕ) × (sourceAt (g .plant) i ≡ readSource bytes at)
-  source-past : (i : ℕ) → g .plant .sources ≤ i → sourceAt (g .plant) i ≡ blankSource
+pub record Fresh (g : Guest) : Type 0 where
+  pub cpus-least : 1 ≤ g .plant .cpus
+  pub cpus-most : g .plant .cpus ≤ cpuLimit
+  pub extents-least : 1 ≤ g .extents .count
+  pub extents-most : g .extents .count ≤ extentLimit
+  pub sources-most : g .plant .sources ≤ sourceLimit
+  pub versions : g .plant .versions ≡ noVersions
+  pub cpu : g .plant .cpu ≡ replicate cpuLimit blankCpu
+  pub extent-past : (i : ℕ) → g .extents .count ≤ i → extentAt (g .extents) i ≡ blankExtent
+  pub source-read : (i : ℕ) → i < g .plant .sources → (bytes : List ℕ) × (at : ℕ) × (sourceAt (g .plant) i ≡ readSource bytes at)
+  pub source-past : (i : ℕ) → g .plant .sources ≤ i → sourceAt (g .plant) i ≡ blankSource
 
 module _ (bytes : List ℕ) (at cpus extents sources : ℕ) (c0 : 1 ≤ cpus) (c1 : cpus ≤ cpuLimit) (e0 : 1 ≤ extents) (e1 : extents ≤ extentLimit) (s1 : sources ≤ sourceLimit) where
   abbrev lists : Guest
@@ -302,18 +302,30 @@ module _ (bytes : List ℕ) (end : ℕ) (t r : Tables) (e : judged bytes end t �
           (λ g h. fresh-keeps (guestAt t g) (a .among g (omega arith) (omega arith)) (all-at (λ g. extentsRight (guestAt t g .extents)) (t .guests) g right-told h) (all-at (λ g. ascend (guestAt t g .extents)) (t .guests) g ascend-told h))
           (λ g h l. ap guestBlank (a .behind-them g (omega arith) ∙ getD-replicate guestLimit g blankGuest hollowGuest l) ∙ guest-blank)
 
--- An accepted image gives tables that keep the rules.
-pub accepted-keeps : (bytes : List ℕ) (tables : Tables) → readImage bytes ≡ granted tables → keepRules tables ≡ true
+-- what an accepted image tells
+accepted-read : (bytes : List ℕ) (tables : Tables) → readImage bytes ≡ granted tables
+    → (end : ℕ) × (judged bytes end tables ≡ granted tables) × (tables .guests ≤ guestLimit) × Around (replicate guestLimit blankGuest) (tables .guest) 0 (tables .guests)
 unfolding readImage
-accepted-keeps bytes tables e =
+accepted-read bytes tables e =
     let a = grants-tells (countAt bytes 0 4 1 1) _ tables e in
     let b = grants-tells (countAt bytes 4 4 1 guestLimit) _ tables (a .1 .1) in
     let c = grants-tells (readGuests bytes (b .0) 8 0 (replicate guestLimit blankGuest)) _ tables (b .1 .1) in
     let most : b .0 ≤ guestLimit = count-most bytes 4 4 1 guestLimit (b .0) (b .1 .0) in
     let room : 0 + b .0 ≤ length (replicate guestLimit blankGuest) = simp length-replicate (omega arith) in
     let t : Tables = record { guests = b .0; guest = c .0 .guest } in
-    rw (← judged-same bytes (c .0 .end) t tables (c .1 .1))
-    (judged-keeps bytes (c .0 .end) t tables (c .1 .1) most (read-around bytes (b .0) 8 0 (replicate guestLimit blankGuest) (c .0) room (c .1 .0)))
+    let same : t ≡ tables = judged-same bytes (c .0 .end) t tables (c .1 .1) in
+    subst (λ (r : Tables). (end : ℕ) × (judged bytes end r ≡ granted r) × (r .guests ≤ guestLimit) × Around (replicate guestLimit blankGuest) (r .guest) 0 (r .guests)) same
+    (c .0 .end, c .1 .1 ∙ ap granted (sym same), most, read-around bytes (b .0) 8 0 (replicate guestLimit blankGuest) (c .0) room (c .1 .0))
+
+-- its guests are as they were read
+pub accepted-fresh : (bytes : List ℕ) (tables : Tables) → readImage bytes ≡ granted tables → (g : ℕ) → g < tables .guests → Fresh (guestAt tables g)
+accepted-fresh bytes tables e g h = accepted-read bytes tables e .3 .among g (omega arith) (omega arith)
+
+-- An accepted image gives tables that keep the rules.
+pub accepted-keeps : (bytes : List ℕ) (tables : Tables) → readImage bytes ≡ granted tables → keepRules tables ≡ true
+accepted-keeps bytes tables e =
+    let r = accepted-read bytes tables e in
+    judged-keeps bytes (r .0) tables tables (r .1) (r .2) (r .3)
 
 -- Whatever is loaded keeps the rules: an image that is refused gives the tables with no guest.
 no-guests-keep : keepRules noGuests ≡ true

@@ -14,3 +14,4 @@ pub mod KeptSources
 pub mod KeptTables
 pub mod KeptTsbs
 pub mod KeptVersions
+pub mod TwoHosts
