@@ -69,5 +69,5 @@ cookie-told v f = go (eqb (v .interrupt) 2) refl
     go false p = rw p
 
 -- the function that the code's match told
-pub admit-as : (v : Versions) (f g : Function) (r : Verdict) → f ≡ g → r ≡ verdictOf (admitted v g) → r ≡ verdictOf (admitted v f)
-admit-as v f g r e p = p ∙ ap (λ (h : Function). verdictOf (admitted v h)) (sym e)
+pub admitted-as : (v : Versions) (f g : Function) (r : Verdict) → f ≡ g → r ≡ verdictOf (admitted v g) → r ≡ verdictOf (admitted v f)
+admitted-as v f g r e p = p ∙ ap (λ (h : Function). verdictOf (admitted v h)) (sym e)

@@ -1,7 +1,7 @@
 // From a trap and a function number to the call. The numbers and the negotiated versions decide first; the arguments are looked
 // at by the call alone.
 use crate::Done;
-use crate::functions::admit;
+use crate::functions::admission;
 use crate::functions::function_of;
 use crate::mondo::cpu_mondo_send;
 use crate::queues::cpu_myid;
@@ -95,7 +95,7 @@ pub fn call(extents: Extents, plant: Plant, mem: &mut [u8], c: Call) -> Done
 {
     let f = function_of(c.trap, c.function);
     let versions = plant.versions;
-    let verdict = admit(versions, f);
+    let verdict = admission(versions, f);
     match verdict {
         Verdict::Right => perform(extents, plant, mem, c, f),
         Verdict::Refused(r) => told(plant, Answer::Refused(r)),

@@ -82,7 +82,7 @@ fn cookie_open(major: u8) -> Verdict
 }
 
 // Whether a function may be called under the negotiated versions. No argument of the call is looked at.
-pub fn admit(v: Versions, f: Function) -> Verdict
+pub fn admission(v: Versions, f: Function) -> Verdict
     ensures { λ r. ⌜ r ≡ verdictOf (admitted v f) ⌝ }
 {
     match f {

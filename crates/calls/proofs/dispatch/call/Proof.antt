@@ -7,8 +7,8 @@ use Rattle.calls.proofs.dispatch.call.Tie as tie
 function-of-requires : tie.Need-function-of-requires
 function-of-requires c κs = search needs
 
-admit-requires : tie.Need-admit-requires
-admit-requires c κs = search needs
+admission-requires : tie.Need-admission-requires
+admission-requires c κs = search needs
 
 enum-told : tie.Need-enum-told
 enum-told c = search needs
@@ -29,20 +29,20 @@ returns : tie.Need-returns
 returns c =
     let e = c .before .before .before .before in
     let a = e .before .before in
-    call-performed _ _ _ _ _ _ _ _ (a .before .before .function-of .ensures) (a .admit .ensures) _ (e .enum-told .given .1) (c .before .before .perform .ensures)
+    call-performed _ _ _ _ _ _ _ _ (a .before .before .function-of .ensures) (a .admission .ensures) _ (e .enum-told .given .1) (c .before .before .perform .ensures)
 
 returns-2 : tie.Need-returns-2
 returns-2 c =
     let v = c .before .before in
     let a = v .before .before in
-    call-refused _ _ _ _ _ _ _ _ (a .before .before .function-of .ensures) (a .admit .ensures) _ (v .verdict .given .1) (c .told .ensures)
+    call-refused _ _ _ _ _ _ _ _ (a .before .before .function-of .ensures) (a .admission .ensures) _ (v .verdict .given .1) (c .told .ensures)
 
 pub call-spec : {M : Type 1} → statement M
 call-spec =
     tie.close
     (tie.spec
     function-of-requires
-    admit-requires
+    admission-requires
     enum-told
     perform-requires
     enum-known-verdict

@@ -1,12 +1,12 @@
--- `calls::functions::admit` meets its contract: an arm each.
+-- `calls::functions::admission` meets its contract: an arm each.
 use borrow.Author.Needs.{needs}
 use mathlib.Core.Path.{refl, _∙_}
 use Rattle.rules.specs.declared.Function.{Function}
 use Rattle.rules.specs.Calls.{admitted}
 use Rattle.records.specs.Verdict.{verdictOf}
-use Rattle.calls.proofs.OpenLaws.{group-told, sysino-told, cookie-told, admit-as}
-use Rattle.calls.proofs.functions.admit.Statement.{statement}
-use Rattle.calls.proofs.functions.admit.Tie as tie
+use Rattle.calls.proofs.OpenLaws.{group-told, sysino-told, cookie-told, admitted-as}
+use Rattle.calls.proofs.functions.admission.Statement.{statement}
+use Rattle.calls.proofs.functions.admission.Tie as tie
 
 enum-told : tie.Need-enum-told
 enum-told c = search needs
@@ -91,64 +91,64 @@ cookie-open-requires c κs = search needs
 
 returns : tie.Need-returns
 unfolding admitted verdictOf
-returns c = admit-as _ _ Function.Unknown _ (c .enum-told .given .1) refl
+returns c = admitted-as _ _ Function.Unknown _ (c .enum-told .given .1) refl
 
 returns-2 : tie.Need-returns-2
 unfolding admitted verdictOf
-returns-2 c = admit-as _ _ Function.SetVersion _ (c .enum-told2 .given .1) refl
+returns-2 c = admitted-as _ _ Function.SetVersion _ (c .enum-told2 .given .1) refl
 
 returns-3 : tie.Need-returns-3
 unfolding admitted verdictOf
-returns-3 c = admit-as _ _ Function.GetVersion _ (c .enum-told3 .given .1) refl
+returns-3 c = admitted-as _ _ Function.GetVersion _ (c .enum-told3 .given .1) refl
 
 returns-4 : tie.Need-returns-4
 unfolding admitted
-returns-4 c = admit-as _ _ Function.CpuQconf _ (c .before .enum-told4 .given .1) (c .group-open .ensures ∙ group-told _ _)
+returns-4 c = admitted-as _ _ Function.CpuQconf _ (c .before .enum-told4 .given .1) (c .group-open .ensures ∙ group-told _ _)
 
 returns-5 : tie.Need-returns-5
 unfolding admitted
-returns-5 c = admit-as _ _ Function.CpuQinfo _ (c .before .enum-told5 .given .1) (c .group-open2 .ensures ∙ group-told _ _)
+returns-5 c = admitted-as _ _ Function.CpuQinfo _ (c .before .enum-told5 .given .1) (c .group-open2 .ensures ∙ group-told _ _)
 
 returns-6 : tie.Need-returns-6
 unfolding admitted
-returns-6 c = admit-as _ _ Function.CpuMyid _ (c .before .enum-told6 .given .1) (c .group-open3 .ensures ∙ group-told _ _)
+returns-6 c = admitted-as _ _ Function.CpuMyid _ (c .before .enum-told6 .given .1) (c .group-open3 .ensures ∙ group-told _ _)
 
 returns-7 : tie.Need-returns-7
 unfolding admitted
-returns-7 c = admit-as _ _ Function.CpuMondoSend _ (c .before .enum-told7 .given .1) (c .group-open4 .ensures ∙ group-told _ _)
+returns-7 c = admitted-as _ _ Function.CpuMondoSend _ (c .before .enum-told7 .given .1) (c .group-open4 .ensures ∙ group-told _ _)
 
 returns-8 : tie.Need-returns-8
 unfolding admitted
-returns-8 c = admit-as _ _ Function.MmuTsbCtx0 _ (c .before .enum-told8 .given .1) (c .group-open5 .ensures ∙ group-told _ _)
+returns-8 c = admitted-as _ _ Function.MmuTsbCtx0 _ (c .before .enum-told8 .given .1) (c .group-open5 .ensures ∙ group-told _ _)
 
 returns-9 : tie.Need-returns-9
 unfolding admitted
-returns-9 c = admit-as _ _ Function.MmuTsbCtxnon0 _ (c .before .enum-told9 .given .1) (c .group-open6 .ensures ∙ group-told _ _)
+returns-9 c = admitted-as _ _ Function.MmuTsbCtxnon0 _ (c .before .enum-told9 .given .1) (c .group-open6 .ensures ∙ group-told _ _)
 
 returns-10 : tie.Need-returns-10
 unfolding admitted
-returns-10 c = admit-as _ _ Function.MemScrub _ (c .before .enum-told10 .given .1) (c .group-open7 .ensures ∙ group-told _ _)
+returns-10 c = admitted-as _ _ Function.MemScrub _ (c .before .enum-told10 .given .1) (c .group-open7 .ensures ∙ group-told _ _)
 
 returns-11 : tie.Need-returns-11
 unfolding admitted
-returns-11 c = admit-as _ _ Function.MemSync _ (c .before .enum-told11 .given .1) (c .group-open8 .ensures ∙ group-told _ _)
+returns-11 c = admitted-as _ _ Function.MemSync _ (c .before .enum-told11 .given .1) (c .group-open8 .ensures ∙ group-told _ _)
 
 returns-12 : tie.Need-returns-12
 unfolding admitted
-returns-12 c = admit-as _ _ Function.MmustatConf _ (c .before .enum-told12 .given .1) (c .group-open9 .ensures ∙ group-told _ _)
+returns-12 c = admitted-as _ _ Function.MmustatConf _ (c .before .enum-told12 .given .1) (c .group-open9 .ensures ∙ group-told _ _)
 
 returns-13 : tie.Need-returns-13
 unfolding admitted
-returns-13 c = admit-as _ _ Function.MmustatInfo _ (c .before .enum-told13 .given .1) (c .group-open10 .ensures ∙ group-told _ _)
+returns-13 c = admitted-as _ _ Function.MmustatInfo _ (c .before .enum-told13 .given .1) (c .group-open10 .ensures ∙ group-told _ _)
 
 returns-14 : tie.Need-returns-14
-returns-14 c = admit-as _ _ _ _ (c .before .enum-told14 .given .1) (c .sysino-open .ensures ∙ sysino-told _ _)
+returns-14 c = admitted-as _ _ _ _ (c .before .enum-told14 .given .1) (c .sysino-open .ensures ∙ sysino-told _ _)
 
 returns-15 : tie.Need-returns-15
-returns-15 c = admit-as _ _ _ _ (c .before .enum-told15 .given .1) (c .cookie-open .ensures ∙ cookie-told _ _)
+returns-15 c = admitted-as _ _ _ _ (c .before .enum-told15 .given .1) (c .cookie-open .ensures ∙ cookie-told _ _)
 
-pub admit-spec : {M : Type 1} → statement M
-admit-spec =
+pub admission-spec : {M : Type 1} → statement M
+admission-spec =
     tie.close
     (tie.spec
     enum-told
