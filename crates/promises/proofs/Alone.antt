@@ -15,8 +15,9 @@ use Rattle.rules.specs.Kept.{plantAt, extentsOf}
 use Rattle.rules.specs.Real.{valid, byteAt}
 use Rattle.rules.specs.Tables.{keepRules}
 use Rattle.rules.specs.Host.{HostOutcome, ownerOf, longEnough, hostEvent}
-use Rattle.promises.proofs.KeptTables.{event-keeps}
-use Rattle.promises.proofs.AloneSteps.{Machine, did, moved, machineOf, Steady, owner-same, long-same, event-steady, own-step, other-step}
+use Rattle.kept.proofs.Tables.{event-keeps}
+use Rattle.kept.proofs.Steady.{Steady, owner-same, long-same, event-steady}
+use Rattle.promises.proofs.AloneSteps.{Machine, did, moved, machineOf, own-step, other-step}
 
 -- whether an event belongs to guest g
 abbrev pub isOwner : ℕ → Owner → Bool

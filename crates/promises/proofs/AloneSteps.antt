@@ -30,10 +30,8 @@ use Rattle.memory.proofs.Isolation.{sight-unmoved}
 use Rattle.memory.proofs.Sights.{after, own-sight}
 use Rattle.memory.proofs.Writes.{apply-length}
 use Rattle.tables.proofs.SoundTables.{guests-few, pages-apart, extents-keep, extents-ascend, plant-keeps}
-use Rattle.promises.proofs.Isolation.{settled, event-settled, few, isolation}
-use Rattle.promises.proofs.KeptPlants.{Kept}
-use Rattle.promises.proofs.KeptEvents.{plant-fine}
-use Rattle.promises.proofs.KeptTables.{extents-same, sources-same, handle-same, devino-same}
+use Rattle.kept.proofs.Settled.{settled, event-settled, few}
+use Rattle.promises.proofs.Isolation.{isolation}
 
 -- The machine that has one plant alone: the plant's record, and its own real memory.
 pub record Machine : Type 0 where
@@ -54,66 +52,9 @@ takenAlone memory guest = record { plant = guest .plant; sight = sightOf (presen
 abbrev pub machineOf : Tables → List ℕ → ℕ → Machine
 machineOf tables memory g = takenAlone memory (guestAt tables g)
 
--- What no event changes: how many guests there are, their extents, and their sources' names.
-pub record Steady (a b : Tables) : Type 0 where
-  pub guests : b .guests ≡ a .guests
-  pub extents : (j : ℕ) → guestAt b j .extents ≡ guestAt a j .extents
-  pub sources : (j : ℕ) → plantAt b j .sources ≡ plantAt a j .sources
-  pub handle : (j i : ℕ) → sourceAt (plantAt b j) i .devhandle ≡ sourceAt (plantAt a j) i .devhandle
-  pub devino : (j i : ℕ) → sourceAt (plantAt b j) i .devino ≡ sourceAt (plantAt a j) i .devino
-
-steady-same : (a : Tables) → Steady a a
-steady-same a = record { guests = refl; extents = λ j. refl; sources = λ j. refl; handle = λ j i. refl; devino = λ j i. refl }
-
-module _ (a b : Tables) (s : Steady a b) where
-  sysino-same : (j d i : ℕ) → sysinoOf (plantAt b j) d i ≡ sysinoOf (plantAt a j) d i
-  unfolding sysinoOf
-  sysino-same j d i = rw (s .sources j) (ap (firstBelow (plantAt a j .sources)) (fun-ext (λ k. rw (s .handle j k, s .devino j k))))
-
-  pub owner-same : (event : Event) → ownerOf b event ≡ ownerOf a event
-  unfolding ownerOf
-  owner-same (Event.Call c) = refl
-  owner-same (Event.Head h) = refl
-  owner-same (Event.Raise d) = rw (s .guests) (ap (λ (p : ℕ → Bool). ownerFound (firstBelow (a .guests) p)) (fun-ext (λ j. ap isFound (sysino-same j (d .devhandle) (d .devino)))))
-  owner-same (Event.Load l) = refl
-  owner-same (Event.Store x) = refl
-
-  run-same : (k : ℕ) → runAt b k ≡ runAt a k
-  unfolding runAt
-  run-same k = ap (λ (e : Extents). extentAt e (k % extentLimit)) (s .extents (k / extentLimit))
-
-  pub long-same : (n : ℕ) → longEnough b n ≡ longEnough a n
-  unfolding longEnough
-  long-same n = ap (allBelow (guestLimit * extentLimit)) (fun-ext (λ k. rw (run-same k)))
-
 module _ (tables : Tables) (memory : List ℕ) (event : Event) (keep : keepRules tables ≡ true) (long : longEnough tables (length memory) ≡ true) where
   abbrev done : ℕ → Outcome
   done g = did (machineOf tables memory g) event
-
-  fine : (g : ℕ) → g < tables .guests → Kept (valid (extentsOf tables g)) (plantAt tables g) (done g .plant)
-  fine g h = plant-fine (sightOf (extentsOf tables g) memory) (plantAt tables g) (plant-keeps tables keep g h) event
-
-  owner-steady : (w : Owner) → Steady tables (settled tables memory event keep long w .tables) × (length (settled tables memory event keep long w .memory) ≡ length memory)
-  owner-steady Owner.Nobody = (steady-same tables, refl)
-  owner-steady (Owner.Guest g) = go (ltb g (tables .guests)) refl
-    where
-      go : (t : Bool) → ltb g (tables .guests) ≡ t → Steady tables (settled tables memory event keep long (Owner.Guest g) .tables) × (length (settled tables memory event keep long (Owner.Guest g) .memory) ≡ length memory)
-      go true e =
-          let h : g < tables .guests = ltb-true g (tables .guests) e in
-          rw e (
-            record {
-              guests = refl;
-              extents = extents-same tables keep g h (done g .plant) (fine g h);
-              sources = sources-same tables keep g h (done g .plant) (fine g h);
-              handle = handle-same tables keep g h (done g .plant) (fine g h);
-              devino = devino-same tables keep g h (done g .plant) (fine g h);
-            },
-            apply-length (extentsOf tables g) (done g .writes) memory,
-          )
-      go false e = rw e (steady-same tables, refl)
-
-  pub event-steady : Steady tables (hostEvent tables memory event .tables) × (length (hostEvent tables memory event .memory) ≡ length memory)
-  event-steady = rw (event-settled tables memory event keep long) (owner-steady (ownerOf tables event))
 
   module _ (g : ℕ) (h : g < tables .guests) where
     -- a guest that is there has a place in the list

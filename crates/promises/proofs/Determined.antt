@@ -11,7 +11,8 @@ use Rattle.image.proofs.load.Reads as load-reads
 use Rattle.tables.proofs.keep_rules.Reads as keep-rules-reads
 use Rattle.tables.proofs.long_enough.Reads as long-enough-reads
 use Rattle.host.proofs.event.Reads as event-reads
-use Rattle.host.proofs.kept_event.Reads as kept-event-reads
+use Rattle.host.proofs.entry_of.Reads as entry-of-reads
+use Rattle.host.proofs.seat_of.Reads as seat-of-reads
 use Rattle.text.proofs.parse_line.Reads as parse-line-reads
 use Rattle.text.proofs.image_bytes.Reads as image-bytes-reads
 use Rattle.text.proofs.numbers_of.Reads as numbers-of-reads
@@ -35,12 +36,16 @@ one-outcome : (o : HostOutcome) (r s : Settled) (m n : List ℕ) → Settles o r
 one-outcome o r s m n p q =
     ((λ i. record { answer = (p .answer ∙ sym (q .answer)) i; tables = (p .tables ∙ sym (q .tables)) i }), p .memory ∙ sym (q .memory))
 
--- host::event and host::kept_event: the answer, the tables, and every byte of memory
+-- host::event: the answer, the tables, and every byte of memory
 pub event-determined : (κs : _) (a : _) (r s : _) (ws vs : _) → event-reads.Post κs a r ws → event-reads.Post κs a s vs → (r ≡ s) × (now (ws .1 .0) ≡ now (vs .1 .0))
 event-determined κs a r s ws vs p q = one-outcome _ r s _ _ p q
 
-pub kept-event-determined : (κs : _) (a : _) (r s : _) (ws vs : _) → kept-event-reads.Post κs a r ws → kept-event-reads.Post κs a s vs → (r ≡ s) × (now (ws .1 .0) ≡ now (vs .1 .0))
-kept-event-determined κs a r s ws vs p q = one-outcome _ r s _ _ p q
+-- its steps: host::entry_of and host::seat_of
+pub entry-of-determined : (κs : _) (a : _) (r s : _) (ws vs : _) → entry-of-reads.Post κs a r ws → entry-of-reads.Post κs a s vs → r ≡ s
+entry-of-determined κs a r s ws vs p q = p ∙ sym q
+
+pub seat-of-determined : (κs : _) (a : _) (r s : _) (ws vs : _) → seat-of-reads.Post κs a r ws → seat-of-reads.Post κs a s vs → r ≡ s
+seat-of-determined κs a r s ws vs p q = p ∙ sym q
 
 -- text: what a line says, and the bytes of an image and of an answer in the lent buffer
 pub parse-line-determined : (κs : _) (a : _) (r s : _) (ws vs : _) → parse-line-reads.Post κs a r ws → parse-line-reads.Post κs a s vs → r ≡ s

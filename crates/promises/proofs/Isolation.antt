@@ -21,7 +21,8 @@ use Rattle.rules.specs.Host.{HostOutcome, plantRule, ownerOf, longEnough, answe
 use Rattle.memory.specs.Cells.{cell}
 use Rattle.memory.proofs.Isolation.{owns, apply-other}
 use Rattle.memory.proofs.Checked.{guests-strangers}
-use Rattle.tables.proofs.SoundTables.{guests-few, pages-apart, extents-keep, extents-few}
+use Rattle.tables.proofs.SoundTables.{guests-few, pages-apart}
+use Rattle.kept.proofs.Settled.{settled, event-settled, few}
 
 -- An event that is refused at the entry, among them a raise that answers 104, changes nothing at all.
 pub refused-at-entry : (tables : Tables) (memory : List ℕ) (event : Event) (r : Refusal) → hostRule tables memory event ≡ refused r
@@ -30,34 +31,23 @@ unfolding hostEvent
 refused-at-entry tables memory event r e = rw e (refl, refl)
 
 module _ (tables : Tables) (memory : List ℕ) (event : Event) (keep : keepRules tables ≡ true) (long : longEnough tables (length memory) ≡ true) where
-  -- what the owner's answer comes to
-  abbrev pub settled : Owner → HostOutcome
-  settled w = hostOutcomeOf tables memory (answeredBy tables memory event w)
-
-  pub event-settled : hostEvent tables memory event ≡ settled (ownerOf tables event)
-  unfolding hostEvent hostRule
-  event-settled = rw (keep, long)
-
-  pub few : (g : ℕ) → g < tables .guests → guestAt tables g .extents .count ≤ extentLimit
-  few g h = extents-few _ (extents-keep tables keep g h)
-
   -- a host offset that is none of the owner's keeps its byte
-  byte-kept : (w : Owner) (k : ℕ) → ((g : ℕ) → g < tables .guests → w ≡ Owner.Guest g → owns (extentsOf tables g) k ≡ false) → cell (settled w .memory) k ≡ cell memory k
+  byte-kept : (w : Owner) (k : ℕ) → ((g : ℕ) → g < tables .guests → w ≡ Owner.Guest g → owns (extentsOf tables g) k ≡ false) → cell (settled tables memory event keep long w .memory) k ≡ cell memory k
   byte-kept Owner.Nobody k other = refl
   byte-kept (Owner.Guest g) k other = go (ltb g (tables .guests)) refl
     where
-      go : (t : Bool) → ltb g (tables .guests) ≡ t → cell (settled (Owner.Guest g) .memory) k ≡ cell memory k
+      go : (t : Bool) → ltb g (tables .guests) ≡ t → cell (settled tables memory event keep long (Owner.Guest g) .memory) k ≡ cell memory k
       go true e =
           rw e
           (apply-other (extentsOf tables g) k (other g (ltb-true g (tables .guests) e) refl)
           (outcomeOf (plantAt tables g) (plantRule (sightOf (extentsOf tables g) memory) (plantAt tables g) event) .writes) memory)
       go false e = rw e
 
-  record-kept : (w : Owner) (f : ℕ) → (w ≡ Owner.Guest f → ⊥) → guestAt (settled w .tables) f ≡ guestAt tables f
+  record-kept : (w : Owner) (f : ℕ) → (w ≡ Owner.Guest f → ⊥) → guestAt (settled tables memory event keep long w .tables) f ≡ guestAt tables f
   record-kept Owner.Nobody f other = refl
   record-kept (Owner.Guest g) f other = go (ltb g (tables .guests)) refl
     where
-      go : (t : Bool) → ltb g (tables .guests) ≡ t → guestAt (settled (Owner.Guest g) .tables) f ≡ guestAt tables f
+      go : (t : Bool) → ltb g (tables .guests) ≡ t → guestAt (settled tables memory event keep long (Owner.Guest g) .tables) f ≡ guestAt tables f
       go true e = rw e (getD-set-other (tables .guest) g f _ hollowGuest (λ q. other (ap Owner.Guest (sym q))))
       go false e = rw e
 
@@ -67,13 +57,13 @@ module _ (tables : Tables) (memory : List ℕ) (event : Event) (keep : keepRules
       × ((k : ℕ) → owns (extentsOf tables f) k ≡ true → cell (hostEvent tables memory event .memory) k ≡ cell memory k)
   isolation f there other =
       let limit : tables .guests ≤ guestLimit = guests-few tables keep in (
-        ap (λ (o : HostOutcome). guestAt (o .tables) f) event-settled ∙ record-kept (ownerOf tables event) f other,
-        λ k own. ap (λ (o : HostOutcome). cell (o .memory) k) event-settled
+        ap (λ (o : HostOutcome). guestAt (o .tables) f) (event-settled tables memory event keep long) ∙ record-kept (ownerOf tables event) f other,
+        λ k own. ap (λ (o : HostOutcome). cell (o .memory) k) (event-settled tables memory event keep long)
             ∙ byte-kept (ownerOf tables event) k (λ g h e.
-            guests-strangers tables g f (omega arith) (omega arith) (few g h) (few f there) (pages-apart tables keep)
+            guests-strangers tables g f (omega arith) (omega arith) (few tables memory event keep long g h) (few tables memory event keep long f there) (pages-apart tables keep)
             (λ q. other (e ∙ ap Owner.Guest q)) k own),
       )
 
   -- Bytes in nobody's pages are the same.
   pub nobodys-bytes : (k : ℕ) → ((g : ℕ) → g < tables .guests → owns (extentsOf tables g) k ≡ false) → cell (hostEvent tables memory event .memory) k ≡ cell memory k
-  nobodys-bytes k other = ap (λ (o : HostOutcome). cell (o .memory) k) event-settled ∙ byte-kept (ownerOf tables event) k (λ g h e. other g h)
+  nobodys-bytes k other = ap (λ (o : HostOutcome). cell (o .memory) k) (event-settled tables memory event keep long) ∙ byte-kept (ownerOf tables event) k (λ g h e. other g h)

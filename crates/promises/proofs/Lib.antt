@@ -1,17 +1,6 @@
-pub mod Accepted
 pub mod Alone
 pub mod AloneSteps
 pub mod Determined
 pub mod Examples
 pub mod Isolation
-pub mod KeptEvents
-pub mod KeptLists
-pub mod KeptPlants
-pub mod KeptQueues
-pub mod KeptRings
-pub mod KeptRulings
-pub mod KeptSources
-pub mod KeptTables
-pub mod KeptTsbs
-pub mod KeptVersions
 pub mod TwoHosts

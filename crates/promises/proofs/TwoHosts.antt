@@ -16,7 +16,7 @@ use Rattle.rules.specs.Image.{readImage}
 use Rattle.rules.specs.Real.{valid, byteAt}
 use Rattle.rules.specs.Rulings.{granted}
 use Rattle.rules.specs.Host.{longEnough}
-use Rattle.promises.proofs.Accepted.{Fresh, accepted-fresh, accepted-keeps}
+use Rattle.kept.proofs.Accepted.{Fresh, accepted-fresh, accepted-keeps}
 use Rattle.promises.proofs.Alone.{belongs, ownEvents, ownAnswers, guestAfter, two-hosts}
 
 -- the same real extents, host pages aside

@@ -7,3 +7,4 @@ pub mod GatherLaws
 pub mod EventLaws
 pub mod RightLaws
 pub mod LineLaws
+pub mod SizeLaws

@@ -158,6 +158,10 @@ module _ (ns m : List ℕ) where
           go zero g q n = absurd (omega arith)
           go (suc j) g q n = rw (b, a, q) (fed ns m j n)
 
+-- as many bytes as its digits, and one more for each number
+numbers-most : (ns : List ℕ) (j : ℕ) → j < length ns → length (numbersText (suc j) ns) ≤ 17 * suc j
+numbers-most ns j h = let e : length (trailed ns (suc j)) ≡ length (numbersText (suc j) ns) = fed ns [] j h .0 in omega (arith, trailed-most ns (suc j))
+
 -- a line of five numbers, and of one
 answer-line : (a : Answer) → numbersText 5 (numbers a) ≡ answerText a
 unfolding numbersText answerText numbers
@@ -173,3 +177,18 @@ module _ (a : Answer) (ns m : List ℕ) (e : ns ≡ numbers a) (r : ℕ) (o : Li
   pub status-printed : (r ≡ length (numbersText 1 ns)) × (o ≡ sets m 0 (numbersText 1 ns)) → (r ≡ length (statusText a)) × (o ≡ sets m 0 (statusText a))
   unfolding statusText numbersText
   status-printed w = rw e at w
+
+five : (a : Answer) → length (numbers a) ≡ 5
+unfolding numbers
+five Done = refl
+five (One v) = refl
+five (Two v w) = refl
+five (Refused why) = refl
+
+-- an answer's line has at most 85 bytes, and an image's at most 17
+pub answer-most : (a : Answer) → length (answerText a) ≤ 85
+answer-most a = rw (← answer-line a) (numbers-most (numbers a) 4 (omega (arith, five a)))
+
+pub status-most : (a : Answer) → length (statusText a) ≤ 17
+unfolding statusText numbersText
+status-most a = numbers-most (numbers a) 0 (omega (arith, five a))

@@ -1,52 +1,82 @@
--- `host::event` meets its contract: 101, 102, and then the event on tables that are right.
+use native.Mathlib.Omega.{arith}
 use borrow.Author.Needs.{needs}
-use mathlib.Core.Path.{sym, _∙_}
-use borrow.Author.Tests.{not-false}
-use Rattle.host.proofs.EntryLaws.{bad-tables, short-memory}
+use mathlib.Core.Path.{refl}
+use Rattle.host.proofs.EntryLaws.{right-keeps, guest-below, guest-sound, settles-refused, settles-answered}
 use Rattle.host.proofs.event.Statement.{statement}
 use Rattle.host.proofs.event.Tie as tie
+use Rattle.host.proofs.event.Reads as reads
+use Rattle.host.proofs.event.Lts as lts
+use Rattle.calls.proofs.plant_event.Reads as plant-event-reads
+use Rattle.host.proofs.entry.entry_of.Reads as entry-of-reads
+use Rattle.host.proofs.entry.seat_of.Reads as seat-of-reads
+use Rattle.host.proofs.put.with_plant.Reads as with-plant-reads
+use Rattle.host.proofs.refused.Reads as refused-reads
 
-keep-rules-requires : tie.Need-keep-rules-requires
-keep-rules-requires c κs = search needs
+-- src/lib.rt:37:9
+entry-of-requires : tie.Need-entry-of-requires
+entry-of-requires c κs = search needs
 
+-- src/lib.rt:38:11
+seat-of-requires : tie.Need-seat-of-requires
+seat-of-requires c κs = right-keeps _ _ _ (c .entry-of .ensures)
+
+-- src/lib.rt:39:23
+enum-known-r : tie.Need-enum-known-r
+enum-known-r c = search needs
+
+-- src/lib.rt:39:29
 refused-requires : tie.Need-refused-requires
 refused-requires c κs = search needs
 
+-- src/lib.rt:40:21
+enum-known-i : tie.Need-enum-known-i
+enum-known-i c = search needs
+
+-- src/lib.rt:41:25
+mul-guest : tie.Need-mul-guest
+mul-guest c = omega (arith, guest-below _ _ _ (c .before .before .before .before .entry-of .ensures) _ _ (c .before .before .before .seat-of .ensures) _ (c .before .i .given .1))
+
+-- src/lib.rt:41:25
+element-copy-out-guest : tie.Need-element-copy-out-guest
+element-copy-out-guest c = omega (arith, guest-below _ _ _ (c .before .before .before .before .entry-of .ensures) _ _ (c .before .before .before .seat-of .ensures) _ (c .before .i .given .1))
+
+-- src/lib.rt:44:17
+plant-event-requires : tie.Need-plant-event-requires
+plant-event-requires c κs = guest-sound _ _ _ (c .before .before .before .before .before .before .before .before .entry-of .ensures) _ _ (c .before .before .before .before .before .before .before .seat-of .ensures) _ (c .before .before .before .before .before .i .given .1)
+
+-- src/lib.rt:49:25
+with-plant-requires : tie.Need-with-plant-requires
+with-plant-requires c κs = guest-below _ _ _ (c .before .before .before .before .before .before .before .before .before .before .before .before .entry-of .ensures) _ _ (c .before .before .before .before .before .before .before .before .before .before .before .seat-of .ensures) _ (c .before .before .before .before .before .before .before .before .before .i .given .1)
+
+-- src/lib.rt:34:1
 returns : tie.Need-returns
-returns c = bad-tables _ _ _ _ _ (c .before .before .keep-rules .ensures) (c .before .if1 .taken) (c .refused .ensures)
+returns c = let s = c .before .before .before .before in
+    settles-refused _ _ _ (s .before .entry-of .ensures) _ _ (s .seat-of .ensures) _ _ (c .before .before .r .given .1) (c .refused .ensures)
 
-long-enough-requires : tie.Need-long-enough-requires
-long-enough-requires c κs = search needs
-
-refused-requires-2 : tie.Need-refused-requires-2
-refused-requires-2 c κs = search needs
-
-returns-2 : tie.Need-returns-2
-returns-2 c =
-    let l = c .before .before in
-    short-memory _ _ _ _ _ (l .before .before .keep-rules .ensures) (l .before .if1 .left) _ (l .long-enough .ensures) (c .before .if2 .taken) (c .refused2 .ensures)
-
-kept-event-requires : tie.Need-kept-event-requires
-kept-event-requires c κs =
-    let l = c .before .before in
-    (sym (l .before .before .keep-rules .ensures) ∙ not-false _ (l .before .if1 .left), sym (l .long-enough .ensures) ∙ not-false _ (c .before .if2 .left))
-
+-- src/lib.rt:34:1
 same-length : tie.Need-same-length
 same-length c = search needs
 
-returns-3 : tie.Need-returns-3
-returns-3 c = search needs
+-- src/lib.rt:34:1
+returns-2 : tie.Need-returns-2
+returns-2 c = let p = c .before .before .before .before in
+    let i = p .before .before .before .before .before .before in
+    let s = i .before .before in
+    settles-answered _ _ _ (s .before .entry-of .ensures) _ _ (s .seat-of .ensures) _ _ (i .i .given .1) (p .plant-event .result) _ (p .plant-event .ensures) refl (c .with-plant .ensures)
 
 pub event-spec : {M : Type 1} → statement M
 event-spec =
     tie.close
     (tie.spec
-    keep-rules-requires
+    entry-of-requires
+    seat-of-requires
+    enum-known-r
     refused-requires
+    enum-known-i
+    mul-guest
+    element-copy-out-guest
+    plant-event-requires
+    with-plant-requires
     returns
-    long-enough-requires
-    refused-requires-2
-    returns-2
-    kept-event-requires
     same-length
-    returns-3)
+    returns-2)

@@ -18,12 +18,12 @@ use Rattle.rules.specs.Sources.{intr-devino2sysino, intr}
 use Rattle.rules.specs.Calls.{functionOf, admitted, perform, call}
 use Rattle.rules.specs.Tables.{plantKeeps}
 use Rattle.rules.specs.Host.{plantRule}
-use Rattle.promises.proofs.KeptPlants.{unchanged}
-use Rattle.promises.proofs.KeptRulings.{Fine, fine-then, fine-if}
-use Rattle.promises.proofs.KeptQueues.{qconf-fine, head-fine, mondo-fine}
-use Rattle.promises.proofs.KeptTsbs.{ctx0-fine, ctxnon0-fine, statistics-fine}
-use Rattle.promises.proofs.KeptSources.{raise-fine, devino-fine, intr-fine, vintr-fine}
-use Rattle.promises.proofs.KeptVersions.{set-version-fine}
+use Rattle.kept.proofs.Plants.{unchanged}
+use Rattle.kept.proofs.Rulings.{Fine, fine-then, fine-if}
+use Rattle.kept.proofs.Queues.{qconf-fine, head-fine, mondo-fine}
+use Rattle.kept.proofs.Tsbs.{ctx0-fine, ctxnon0-fine, statistics-fine}
+use Rattle.kept.proofs.Sources.{raise-fine, devino-fine, intr-fine, vintr-fine}
+use Rattle.kept.proofs.Versions.{set-version-fine}
 
 module _ (sight : Sight) (plant : Plant) (e : plantKeeps (sight .valid) plant ≡ true) where
   abbrev v : ℕ → ℕ → Bool

@@ -22,9 +22,9 @@ use Rattle.rules.specs.Memory.{newStatistics, setOrClear, mmustat-conf}
 use Rattle.rules.specs.Tables.{tsbBlank, tsbsRight, plantKeeps}
 use Rattle.rules.proofs.Computing.{computing}
 use Rattle.image.proofs.GuestLaws.{grants-tells}
-use Rattle.promises.proofs.Accepted.{then-tells, then-rest, granted-same, past-blank, list-right}
-use Rattle.promises.proofs.KeptPlants.{Kept, cpu-there, cpu-replaced, with-ctx0, with-ctxnon0, with-statistics}
-use Rattle.promises.proofs.KeptRulings.{Fine, fine-grants}
+use Rattle.kept.proofs.Accepted.{then-tells, then-rest, granted-same, past-blank, list-right}
+use Rattle.kept.proofs.Plants.{Kept, cpu-there, cpu-replaced, with-ctx0, with-ctxnon0, with-statistics}
+use Rattle.kept.proofs.Rulings.{Fine, fine-grants}
 
 -- a descriptor that is granted is granted as it is
 judged-itself : (v : ℕ → ℕ → Bool) (t r : Tsb) → judgedTsb v t ≡ granted r → t ≡ r

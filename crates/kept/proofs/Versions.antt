@@ -19,12 +19,12 @@ use Rattle.rules.specs.Rulings.{Ruling, Outcome, says, _or-refuse_then_, if_the
 use Rattle.rules.specs.Versions.{groupOf, known, newest, majorOf, withMajor, disabled, allDisabled, negotiated, set-version}
 use Rattle.rules.specs.Tables.{listRight, cookieRight, enabledRight, sourceRight, sourceBlank, targetBlank, versionsRight, plantKeeps}
 use Rattle.rules.proofs.Tests.{and-left, and-right}
-use Rattle.promises.proofs.Accepted.{list-right}
+use Rattle.kept.proofs.Accepted.{list-right}
 use Rattle.records.proofs.SoundLaws.{plant-sources}
-use Rattle.promises.proofs.KeptLists.{list-past}
-use Rattle.promises.proofs.KeptPlants.{Kept, first-part, cpus-part, sources-part, source-there}
-use Rattle.promises.proofs.KeptRulings.{Fine, fine-then}
-use Rattle.promises.proofs.KeptSources.{made, name-part, enabled-part, state-part, target-part, cookie-part}
+use Rattle.kept.proofs.Lists.{list-past}
+use Rattle.kept.proofs.Plants.{Kept, first-part, cpus-part, sources-part, source-there}
+use Rattle.kept.proofs.Rulings.{Fine, fine-then}
+use Rattle.kept.proofs.Sources.{made, name-part, enabled-part, state-part, target-part, cookie-part}
 
 module _ (v : ℕ → ℕ → Bool) (plant : Plant) (e : plantKeeps v plant ≡ true) where
   cpus-least : leb 1 (plant .cpus) ≡ true

@@ -19,7 +19,7 @@ use Rattle.rules.specs.Tables.{listRight, cpuRight, cpuBlank, recordRight, tsbs
 use Rattle.rules.proofs.Scan.{all-at, all-of}
 use Rattle.rules.proofs.Tests.{and-left, and-right}
 use Rattle.records.proofs.SoundLaws.{list-there}
-use Rattle.promises.proofs.KeptLists.{set-either, list-replaced}
+use Rattle.kept.proofs.Lists.{set-either, list-replaced}
 
 -- the parts of the rule
 module _ (v : ℕ → ℕ → Bool) (plant : Plant) (e : plantKeeps v plant ≡ true) where

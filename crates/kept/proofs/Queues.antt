@@ -20,9 +20,9 @@ use Rattle.rules.specs.Mondo.{entryAt, entries, cpuMondo, sendTo, sendOne, send
 use Rattle.rules.specs.Tables.{recordRight, ringRight, plantKeeps}
 use Rattle.rules.proofs.Scan.{all-at}
 use Rattle.rules.proofs.Tests.{and-left, and-right}
-use Rattle.promises.proofs.KeptPlants.{Kept, unchanged, further, cpu-there, cpu-replaced, queue-right, with-queue}
-use Rattle.promises.proofs.KeptRings.{new-ring-right, head-right, tail-right}
-use Rattle.promises.proofs.KeptRulings.{Fine, fine-then, fine-grants, fine-if}
+use Rattle.kept.proofs.Plants.{Kept, unchanged, further, cpu-there, cpu-replaced, queue-right, with-queue}
+use Rattle.kept.proofs.Rings.{new-ring-right, head-right, tail-right}
+use Rattle.kept.proofs.Rulings.{Fine, fine-then, fine-grants, fine-if}
 
 module _ (v : ℕ → ℕ → Bool) (plant : Plant) (e : plantKeeps v plant ≡ true) (cpu : ℕ) (there : cpu < plant .cpus) where
   -- a queue's record replaced

@@ -7,7 +7,7 @@ use Rattle.rules.specs.declared.Plant.{Plant}
 use Rattle.rules.specs.declared.Refusal.{Refusal}
 use Rattle.rules.specs.Rulings.{Ruling, refused, granted, Outcome, outcomeOf, says, _or-refuse_then_, _grants_, if_then_else_}
 use Rattle.rules.specs.Tables.{plantKeeps}
-use Rattle.promises.proofs.KeptPlants.{Kept, unchanged}
+use Rattle.kept.proofs.Plants.{Kept, unchanged}
 
 abbrev pub Fine : (ℕ → ℕ → Bool) → Plant → Ruling Outcome → Type 0
 Fine v plant x = Kept v plant (outcomeOf plant x .plant)

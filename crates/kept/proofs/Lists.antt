@@ -12,7 +12,7 @@ use Rattle.rules.specs.Tables.{listRight}
 use Rattle.rules.proofs.Scan.{all-at}
 use Rattle.rules.proofs.Tests.{and-right}
 use Rattle.records.proofs.SoundLaws.{list-length, list-there}
-use Rattle.promises.proofs.Accepted.{list-right}
+use Rattle.kept.proofs.Accepted.{list-right}
 
 -- what holds of the new element, and held at the place, holds at the place
 pub set-either : {A : Type 0} (P : A → Type 0) (l : List A) (i j : ℕ) (x d : A) → (j ≡ i → P x) → P (getD l j d) → P (getD (set l i x) j d)

@@ -24,9 +24,9 @@ use Rattle.rules.specs.Tables.{listRight, guestBlank, guestKeeps, keepRules}
 use Rattle.rules.specs.Host.{HostOutcome, plantRule, ownerOf, longEnough, answeredBy, hostRule, hostOutcomeOf, hostEvent}
 use Rattle.rules.proofs.Tests.{and-left, and-right}
 use Rattle.tables.proofs.SoundTables.{extents-keep, plant-keeps}
-use Rattle.promises.proofs.KeptLists.{set-either, list-replaced}
-use Rattle.promises.proofs.KeptPlants.{Kept}
-use Rattle.promises.proofs.KeptEvents.{plant-fine}
+use Rattle.kept.proofs.Lists.{set-either, list-replaced}
+use Rattle.kept.proofs.Plants.{Kept}
+use Rattle.kept.proofs.Events.{plant-fine}
 
 some-same : (n : ℕ) (p q : ℕ → Bool) → ((i : ℕ) → p i ≡ q i) → someBelow n p ≡ someBelow n q
 some-same n p q f = ap (someBelow n) (fun-ext f)

@@ -22,10 +22,10 @@ use Rattle.rules.specs.Sources.{sysinoOf, found, get-enabled, set-enabled, get-
 use Rattle.rules.specs.Tables.{targetRight, cookieRight, enabledRight, sourceRight, plantKeeps}
 use Rattle.rules.proofs.Scan.{first-below}
 use Rattle.rules.proofs.Tests.{and-left, and-right}
-use Rattle.promises.proofs.KeptPlants.{Kept, unchanged, further, source-there, source-replaced}
-use Rattle.promises.proofs.KeptRings.{tail-right}
-use Rattle.promises.proofs.KeptQueues.{queue-kept, ring-there}
-use Rattle.promises.proofs.KeptRulings.{Fine, fine-then, fine-grants, fine-if}
+use Rattle.kept.proofs.Plants.{Kept, unchanged, further, source-there, source-replaced}
+use Rattle.kept.proofs.Rings.{tail-right}
+use Rattle.kept.proofs.Queues.{queue-kept, ring-there}
+use Rattle.kept.proofs.Rulings.{Fine, fine-then, fine-grants, fine-if}
 
 -- the parts of the rule of a source, and the rule from its parts
 module _ (plant : Plant) (s : Source) where

@@ -1,0 +1,13 @@
+pub mod Accepted
+pub mod Events
+pub mod Lists
+pub mod Plants
+pub mod Queues
+pub mod Rings
+pub mod Rulings
+pub mod Settled
+pub mod Sources
+pub mod Steady
+pub mod Tables
+pub mod Tsbs
+pub mod Versions

@@ -1,0 +1,153 @@
+-- What each thing that a line can ask for comes to.
+use mathlib.Core.Path.{_≡_, refl, sym, ap, _∙_}
+use mathlib.Core.Bool.{Bool, true, false}
+use mathlib.Core.List.{List, [], _∷_, _++_}
+use Prim.Native.Nat.{ℕ, _<_}
+use native.Mathlib.Omega.{arith}
+use lib.ListN.{length, take}
+use Rattle.rules.specs.declared.Answer.{Answer}
+use Rattle.rules.specs.declared.Event.{Event}
+use Rattle.rules.specs.declared.Loaded.{Loaded}
+use Rattle.rules.specs.declared.Refusal.{Refusal}
+use Rattle.rules.specs.declared.Tables.{Tables}
+use Rattle.rules.specs.Limits.{guestLimit}
+use Rattle.rules.specs.Kept.{guestAt, plantAt, extentsOf, withPlant}
+use Rattle.rules.specs.Real.{sightOf}
+use Rattle.rules.specs.Statuses.{numbers}
+use Rattle.rules.specs.Image.{load}
+use Rattle.rules.specs.Host.{HostOutcome, plantRule, longEnough, hostEvent}
+use Rattle.rules.specs.Tables.{keepRules}
+use Rattle.rules.specs.Text.{Line, bad, image, event, parse, lineFeed, badWord, spaced}
+use Rattle.rules.specs.Session.{Session, Printed, afterImage, afterEvent, answered}
+use Rattle.records.specs.declared.Verdict.{Verdict}
+use Rattle.records.specs.Verdict.{isRight}
+use Rattle.records.specs.Sound.{Sound}
+use Rattle.calls.specs.declared.Done.{Done}
+use Rattle.calls.specs.Follows.{Follows}
+use Rattle.host.specs.declared.entry.Seat.{Seat}
+use Rattle.host.specs.Seats.{entryOf, seatOf}
+use Rattle.host.proofs.EntryLaws.{entry-tells, seat-told, seat-sound, seat-refuses, seat-follows}
+use Rattle.kept.proofs.Tables.{event-keeps}
+use Rattle.kept.proofs.Steady.{long-same, event-steady}
+use Rattle.text.specs.Lines.{imageOf}
+use Rattle.text.specs.Printed.{badText, statusText, answerText}
+use Rattle.session.specs.declared.ask.Asked.{Asked}
+use Rattle.session.specs.declared.reply.Reply.{Reply}
+use Rattle.session.specs.Asking.{asked, askedOf}
+use Rattle.session.specs.Replies.{replyText}
+
+-- a reply's text without its line feed
+unfoldable pub says : Reply → List ℕ
+says Reply.Bad = badWord
+says (Reply.Image answer) = spaced (take 1 (numbers answer))
+says (Reply.Event answer) = spaced (numbers answer)
+
+pub reply-says : (reply : Reply) → says reply ++ (lineFeed ∷ []) ≡ replyText reply
+unfolding says replyText statusText answerText
+reply-says Reply.Bad = refl
+reply-says (Reply.Image answer) = refl
+reply-says (Reply.Event answer) = refl
+
+module _ (tables : Tables) (memory line : List ℕ) where
+  abbrev session : Session
+  session = record { tables = tables; memory = memory }
+
+  abbrev entry : Verdict
+  entry = entryOf tables (length memory)
+
+  -- no line
+  pub answers-bad : (v : Verdict) → Asked.Bad ≡ asked tables v (parse line) → answered session (parse line) ≡ record { session = session; text = says Reply.Bad }
+  unfolding asked askedOf answered says
+  answers-bad v = go (parse line)
+    where
+      none : (e : Event) (s : Seat) → seatOf tables v e ≡ s → Asked.Bad ≡ askedOf tables v e → ⊥
+      none e (Seat.Refused r) q p = let z : _≡_ {A = ℕ} 0 1 = cc (p, q) in absurd (omega arith)
+      none e (Seat.Guest g) q p = let z : _≡_ {A = ℕ} 0 1 = cc (p, q) in absurd (omega arith)
+
+      go : (l : Line) → Asked.Bad ≡ asked tables v l → answered session l ≡ record { session = session; text = says Reply.Bad }
+      go bad p = refl
+      go (image bytes) p = let z : _≡_ {A = ℕ} 0 1 = cc in absurd (omega arith)
+      go (event e) p = absurd (none e (seatOf tables v e) refl p)
+
+  -- an image
+  answers-image : (v : Verdict) → Asked.Image ≡ asked tables v (parse line)
+      → answered session (parse line) ≡ record { session = record { tables = load (imageOf (parse line)) .tables; memory = memory }; text = says (Reply.Image (load (imageOf (parse line)) .answer)) }
+  unfolding asked askedOf answered says imageOf
+  answers-image v = go (parse line)
+    where
+      none : (e : Event) (s : Seat) → seatOf tables v e ≡ s → Asked.Image ≡ askedOf tables v e → ⊥
+      none e (Seat.Refused r) q p = let z : _≡_ {A = ℕ} 0 1 = cc (p, q) in absurd (omega arith)
+      none e (Seat.Guest g) q p = let z : _≡_ {A = ℕ} 0 1 = cc (p, q) in absurd (omega arith)
+
+      go : (l : Line) → Asked.Image ≡ asked tables v l
+          → answered session l ≡ record { session = record { tables = load (imageOf l) .tables; memory = memory }; text = says (Reply.Image (load (imageOf l) .answer)) }
+      go bad p = let z : _≡_ {A = ℕ} 0 1 = cc in absurd (omega arith)
+      go (image bytes) p = refl
+      go (event e) p = absurd (none e (seatOf tables v e) refl p)
+
+  pub answers-loaded : (v : Verdict) (r : Loaded) → Asked.Image ≡ asked tables v (parse line) → r ≡ load (imageOf (parse line))
+      → answered session (parse line) ≡ record { session = record { tables = r .tables; memory = memory }; text = says (Reply.Image (r .answer)) }
+  answers-loaded v r p e = rw e (answers-image v p)
+
+  -- an event that no guest answers
+  pub answers-refused : (r : Refusal) → Asked.Refused r ≡ asked tables entry (parse line)
+      → answered session (parse line) ≡ record { session = session; text = says (Reply.Event (Answer.Refused r)) }
+  unfolding asked askedOf answered says
+  answers-refused r = go (parse line)
+    where
+      of : (e : Event) (s : Seat) → seatOf tables entry e ≡ s → Asked.Refused r ≡ askedOf tables entry e → seatOf tables entry e ≡ Seat.Refused r
+      of e (Seat.Refused x) q p = let w : x ≡ r = cc (p, q) in q ∙ ap Seat.Refused w
+      of e (Seat.Guest g) q p = let z : _≡_ {A = ℕ} 0 1 = cc (p, q) in absurd (omega arith)
+
+      go : (l : Line) → Asked.Refused r ≡ asked tables entry l → answered session l ≡ record { session = session; text = says (Reply.Event (Answer.Refused r)) }
+      go bad p = let z : _≡_ {A = ℕ} 0 1 = cc in absurd (omega arith)
+      go (image bytes) p = let z : _≡_ {A = ℕ} 0 1 = cc in absurd (omega arith)
+      go (event e) p = ap afterEvent (seat-refuses tables memory e r (of e (seatOf tables entry e) refl p))
+
+  -- an event of a guest that is there
+  pub guest-seated : (g : ℕ) (e : Event) → Asked.Guest g e ≡ asked tables entry (parse line) → (parse line ≡ event e) × (seatOf tables entry e ≡ Seat.Guest g)
+  unfolding asked askedOf
+  guest-seated g e = go (parse line)
+    where
+      of : (x : Event) (s : Seat) → seatOf tables entry x ≡ s → Asked.Guest g e ≡ askedOf tables entry x → (x ≡ e) × (seatOf tables entry x ≡ Seat.Guest g)
+      of x (Seat.Refused r) q p = let z : _≡_ {A = ℕ} 0 1 = cc (p, q) in absurd (omega arith)
+      of x (Seat.Guest h) q p = let w : h ≡ g = cc (p, q) in (cc (p, q), q ∙ ap Seat.Guest w)
+
+      go : (l : Line) → Asked.Guest g e ≡ asked tables entry l → (l ≡ event e) × (seatOf tables entry e ≡ Seat.Guest g)
+      go bad p = let z : _≡_ {A = ℕ} 0 1 = cc in absurd (omega arith)
+      go (image bytes) p = let z : _≡_ {A = ℕ} 0 1 = cc in absurd (omega arith)
+      go (event x) p =
+          let w = of x (seatOf tables entry x) refl p in
+          (ap event (w .0), ap (λ (y : Event). seatOf tables entry y) (sym (w .0)) ∙ w .1)
+
+  module _ (g : ℕ) (e : Event) (p : Asked.Guest g e ≡ asked tables entry (parse line)) where
+    pub guest-fine : (g < guestLimit) × Sound (guestAt tables g .extents) (plantAt tables g) (length memory)
+    guest-fine = seat-sound tables (length memory) e g (guest-seated g e p .1)
+
+    module _ (d : Done) (after : List ℕ)
+        (f : Follows (guestAt tables g .extents) (plantAt tables g) (plantRule (sightOf (extentsOf tables g) memory) (plantAt tables g) e) memory d after) where
+      outcome : hostEvent tables memory e ≡ record { answer = d .answer; tables = withPlant tables g (d .plant); memory = after }
+      outcome = seat-follows tables memory e g d after (guest-seated g e p .1) f
+
+      pub answers-guest : answered session (parse line) ≡ record { session = record { tables = withPlant tables g (d .plant); memory = after }; text = says (Reply.Event (d .answer)) }
+      unfolding answered says
+      answers-guest = rw (guest-seated g e p .0) (ap afterEvent outcome)
+
+      right : (keepRules tables ≡ true) × (longEnough tables (length memory) ≡ true)
+      right = entry-tells tables (length memory) (seat-told tables (length memory) e entry g (guest-seated g e p .1) .0)
+
+      pub memory-same : length after ≡ length memory
+      memory-same = ap (λ (o : HostOutcome). length (o .memory)) (sym outcome) ∙ event-steady tables memory e (right .0) (right .1) .1
+
+      -- it leaves the entry as it was
+      pub entry-same : entryOf (withPlant tables g (d .plant)) (length after) ≡ entry
+      unfolding entryOf
+      entry-same =
+          let kept : keepRules (withPlant tables g (d .plant)) ≡ true = ap (λ (o : HostOutcome). keepRules (o .tables)) (sym outcome) ∙ event-keeps tables memory e (right .0) in
+          let same = ap (λ (o : HostOutcome). longEnough (o .tables) (length memory)) (sym outcome) ∙ long-same _ _ (event-steady tables memory e (right .0) (right .1) .0) (length memory) in
+          rw (kept, memory-same, same, right .0, right .1)
+
+-- The same, as the code holds it: v is the entry, x what was asked, and the code's match told what x is.
+module _ (tables : Tables) (memory line : List ℕ) (v : Verdict) (q : v ≡ entryOf tables (length memory)) (x : Asked) (p : x ≡ asked tables v (parse line)) where
+  pub asked-as : (y : Asked) → x ≡ y → y ≡ asked tables (entryOf tables (length memory)) (parse line)
+  asked-as y e = sym e ∙ p ∙ ap (λ (u : Verdict). asked tables u (parse line)) q

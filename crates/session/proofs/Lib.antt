@@ -1,0 +1,4 @@
+pub mod Answers
+pub mod AskLaws
+pub mod FeedLaws
+pub mod ReplyLaws

@@ -1,0 +1,54 @@
+// What a line asks for, and of whom.
+ghost use mathlib.Core.Path.{_≡_};
+ghost use mathlib.Core.Bool.{true};
+ghost use Rattle.rules.specs.Tables.{keepRules};
+ghost use Rattle.rules.specs.Text.{parse};
+ghost use Rattle.rules.specs.Image.{load};
+ghost use Rattle.records.specs.Verdict.{isRight};
+ghost use Rattle.text.specs.Lines.{imageOf};
+ghost use Rattle.session.specs.Asking.{asked, askedOf};
+use host::Seat;
+use records::Verdict;
+use rules::Event;
+use rules::Loaded;
+use rules::Refusal;
+use rules::Tables;
+use text::Line;
+
+// Nothing, as it is no line; an image; an event that is refused at the entry; an event of a guest that is there.
+pub enum Asked {
+    Bad,
+    Image,
+    Refused(Refusal),
+    Guest(usize, Event),
+}
+
+fn ask_event(tables: Tables, entry: Verdict, event: Event) -> Asked
+    requires { ⌜ (isRight entry ≡ true → keepRules tables ≡ true) ⌝ }
+    ensures { λ r. ⌜ r ≡ askedOf tables entry event ⌝ }
+{
+    match host::seat_of(tables, entry, event) {
+        Seat::Refused(r) => Asked::Refused(r),
+        Seat::Guest(g) => Asked::Guest(g, event),
+    }
+}
+
+pub fn ask(tables: Tables, entry: Verdict, line: &[u8]) -> Asked
+    requires { ⌜ (isRight entry ≡ true → keepRules tables ≡ true) ⌝ }
+    ensures { λ r. ⌜ r ≡ asked tables entry (parse (now (line .entry))) ⌝ }
+{
+    match text::parse_line(line) {
+        Line::Bad => Asked::Bad,
+        Line::Image => Asked::Image,
+        Line::Event(event) => ask_event(tables, entry, event),
+    }
+}
+
+// Loads the image of an image line.
+pub fn load_line(line: &[u8]) -> Loaded
+    ensures { λ r. ⌜ r ≡ load (imageOf (parse (now (line .entry)))) ⌝ }
+{
+    let mut bytes = [0u8; 1024];
+    let n = text::image_bytes(line, &mut bytes);
+    image::load(&bytes[..n])
+}
