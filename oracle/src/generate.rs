@@ -102,7 +102,7 @@ impl Generator {
 
     /// Some refused images, then a sound one and a long run of events on it.
     fn era(&mut self) {
-        for _ in 0..self.random.below(10) {
+        for _ in 0..self.random.below(30) {
             self.damaged_image();
             self.blind_events(5);
         }
@@ -511,10 +511,11 @@ impl Generator {
         let (guest_number, cpu) = (guest as u64, cpu as u64);
         let address = self.inside(guest, 8);
         let mut line = match self.random.below(5) {
-            0 => self.line(
-                "call",
-                &[guest_number, cpu, 0x80, 0x14, 0x3c, address, 2, 0, 0],
-            ),
+            0 => {
+                let fields = [guest_number, cpu, 0x80, 0x14, 0x3c, address, 2, 0, 0];
+                let count = self.random.pick(&[4, 5, 6, 7, 8, 9, 9]);
+                self.line("call", &fields[..count])
+            }
             1 => self.line("head", &[guest_number, cpu, 0x3c, 0x40]),
             2 => self.line("raise", &[0x100, 5]),
             3 => self.line("load", &[guest_number, address]),

@@ -1,7 +1,9 @@
-//! `oracle` answers a session from standard input; `oracle generate --seed S
-//! --lines N` prints one to answer.
+//! `oracle` answers a session from standard input. The other commands print
+//! sessions, or say what a session reaches.
 
+mod bench;
 mod calls;
+mod coverage;
 mod generate;
 mod image;
 mod model;
@@ -13,25 +15,22 @@ mod tables;
 mod tests;
 mod tsb;
 
-use std::io::{self, BufReader, BufWriter};
+use std::io::{self, BufReader, BufWriter, Write};
 use std::process::ExitCode;
 
 const BUFFER: usize = 1 << 16;
-const USAGE: &str = "usage: oracle [generate --seed S --lines N]";
+const USAGE: &str = "usage: oracle
+       oracle generate --seed S --lines N
+       oracle coverage --seed S --lines N
+       oracle bench-session mix|raise|mondo --lines N";
 
 fn main() -> ExitCode {
     let arguments: Vec<String> = std::env::args().skip(1).collect();
     let arguments: Vec<&str> = arguments.iter().map(String::as_str).collect();
-    let done = match arguments[..] {
-        [] => answer(),
-        ["generate", "--seed", seed, "--lines", lines] => match (seed.parse(), lines.parse()) {
-            (Ok(seed), Ok(lines)) => generate(seed, lines),
-            _ => Err(io::Error::other(USAGE)),
-        },
-        _ => Err(io::Error::other(USAGE)),
-    };
-    match done {
+    match run(&arguments) {
         Ok(()) => ExitCode::SUCCESS,
+        // Whoever read the output has seen enough.
+        Err(error) if error.kind() == io::ErrorKind::BrokenPipe => ExitCode::FAILURE,
         Err(error) => {
             eprintln!("oracle: {error}");
             ExitCode::FAILURE
@@ -39,13 +38,32 @@ fn main() -> ExitCode {
     }
 }
 
-fn answer() -> io::Result<()> {
-    let input = BufReader::with_capacity(BUFFER, io::stdin().lock());
-    let output = BufWriter::with_capacity(BUFFER, io::stdout().lock());
-    session::run(input, output)
+fn run(arguments: &[&str]) -> io::Result<()> {
+    let mut output = BufWriter::with_capacity(BUFFER, io::stdout().lock());
+    match *arguments {
+        [] => {
+            let input = BufReader::with_capacity(BUFFER, io::stdin().lock());
+            session::run(input, &mut output)
+        }
+        ["generate", "--seed", seed, "--lines", lines] => {
+            generate::write_session(number(seed)?, number(lines)?, &mut output)
+        }
+        ["coverage", "--seed", seed, "--lines", lines] => {
+            coverage::report(number(seed)?, number(lines)?, &mut output)
+        }
+        ["bench-session", kind, "--lines", lines] => {
+            let cycle = bench::cycle(kind).ok_or_else(misused)?;
+            bench::write_session(cycle, number(lines)?, &mut output)
+        }
+        _ => Err(misused()),
+    }?;
+    output.flush()
 }
 
-fn generate(seed: u64, lines: u64) -> io::Result<()> {
-    let mut output = BufWriter::with_capacity(BUFFER, io::stdout().lock());
-    generate::write_session(seed, lines, &mut output)
+fn number(text: &str) -> io::Result<u64> {
+    text.parse().map_err(|_| misused())
+}
+
+fn misused() -> io::Error {
+    io::Error::other(USAGE)
 }

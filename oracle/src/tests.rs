@@ -4,6 +4,7 @@ mod coverage;
 mod examples;
 mod readings;
 mod rules;
+mod sessions;
 mod text;
 
 use crate::session;

@@ -1,4 +1,5 @@
 pub mod Answers
 pub mod AskLaws
 pub mod FeedLaws
+pub mod Fits
 pub mod ReplyLaws

@@ -6,7 +6,7 @@ use crate::session::LINE_LIMIT;
 /// Spoils a sound line that is not an image's.
 pub fn spoil(line: &mut Vec<u8>, random: &mut Random) {
     let place = random.index(line.len());
-    match random.below(16) {
+    match random.below(17) {
         0 => line[..4].make_ascii_uppercase(),
         1 => line[0] = line[0].to_ascii_uppercase(),
         2 => line.insert(0, b' '),
@@ -26,6 +26,7 @@ pub fn spoil(line: &mut Vec<u8>, random: &mut Random) {
         12 => line.extend_from_slice(&b" 0 1 0 1 0 1 0 1"[..2 * (1 + random.index(8))]),
         13 => line.clear(),
         14 => replace_word(line, random),
+        15 => empty_field(line, random),
         _ => *line = noise(random),
     }
 }
@@ -136,6 +137,16 @@ fn replace_space(line: &mut [u8], other: u8, random: &mut Random) {
 fn prefix_field(line: &mut Vec<u8>, prefix: &[u8], random: &mut Random) {
     let place = some_space(line, random).unwrap_or(0) + 1;
     line.splice(place..place, prefix.iter().copied());
+}
+
+/// Leaves the spaces of a field and none of its digits.
+fn empty_field(line: &mut Vec<u8>, random: &mut Random) {
+    let start = some_space(line, random).unwrap_or(0) + 1;
+    let digits = line[start..]
+        .iter()
+        .take_while(|&&byte| byte != b' ')
+        .count();
+    line.drain(start..start + digits);
 }
 
 /// Leading zeros up to 17 digits, or for a sound field up to 16.

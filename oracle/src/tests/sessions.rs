@@ -1,0 +1,40 @@
+//! Whole sessions: the long one of docs/session, whose answers were worked out
+//! from the paper, and those for measuring speed.
+
+use super::answers;
+use crate::bench;
+
+#[test]
+fn the_long_session_answers_as_written() {
+    let expected = include_str!("../../../crates/chaldrev/stdout");
+    let answers = answers(include_bytes!("../../../crates/chaldrev/stdin"));
+    for (place, (answer, expected)) in answers.iter().zip(expected.lines()).enumerate() {
+        let line = place + 1;
+        assert_eq!(answer, expected, "docs/session/unfold --why {line}");
+    }
+    assert_eq!(answers.len(), expected.lines().count());
+}
+
+fn bench_session(kind: &str, lines: u64) -> Vec<(String, String)> {
+    let mut text = Vec::new();
+    let cycle = bench::cycle(kind).expect("a kind that there is");
+    bench::write_session(cycle, lines, &mut text).expect("memory");
+    let answers = answers(&text);
+    let text = String::from_utf8(text).expect("text");
+    assert_eq!(text.lines().count() as u64, lines);
+    text.lines().map(str::to_owned).zip(answers).collect()
+}
+
+#[test]
+fn every_raise_and_mondo_of_a_bench_session_is_delivered() {
+    for kind in ["mix", "raise", "mondo"] {
+        for (line, answer) in bench_session(kind, 20_000) {
+            let slip = line.contains("a8 200 5") || line.contains("14 3c 40 2");
+            assert!(slip || answer.starts_with('0'), "{line}: {answer}");
+            assert!(
+                !line.starts_with("raise") || answer == "0 2 0 0 0",
+                "{line}: {answer}"
+            );
+        }
+    }
+}
