@@ -1,4 +1,6 @@
+pub mod AcceptedCalls
 pub mod Computing
 pub mod Examples
 pub mod Scan
 pub mod Tests
+pub mod WorkedText
