@@ -1,7 +1,9 @@
 pub mod Accepted
+pub mod AcceptedEvents
 pub mod Alone
 pub mod AloneSteps
 pub mod Determined
+pub mod Elsewhere
 pub mod Examples
 pub mod Isolation
 pub mod KeptEvents
@@ -14,4 +16,6 @@ pub mod KeptSources
 pub mod KeptTables
 pub mod KeptTsbs
 pub mod KeptVersions
+pub mod NotVacuous
+pub mod StoredWord
 pub mod TwoHosts
