@@ -71,7 +71,7 @@ enough′ = refl
 pub the-same-elsewhere : (events events′ : List Event) → ownEvents (belongs workedTables 0) events ≡ ownEvents (belongs otherTables 0) events′
     → (ownAnswers (belongs workedTables 0) workedTables zeros events ≡ ownAnswers (belongs otherTables 0) otherTables zeros events′)
     × (guestAfter workedTables zeros 0 events ≡ guestAfter otherTables zeros 0 events′)
-the-same-elsewhere = 
+the-same-elsewhere =
     demand-3 workedImage otherImage workedTables otherTables worked-accepted other-accepted zeros zeros enough enough′ 0 (omega arith) (omega arith)
     refl (refl, refl, tt) refl refl (λ a. zero-seen _ a ∙ sym (zero-seen _ a))
 

@@ -17,5 +17,6 @@ pub mod KeptTables
 pub mod KeptTsbs
 pub mod KeptVersions
 pub mod NotVacuous
+pub mod ScrubbedBytes
 pub mod StoredWord
 pub mod TwoHosts
