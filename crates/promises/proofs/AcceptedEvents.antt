@@ -1,8 +1,7 @@
 -- Not vacuous: events on the worked session's host that are not refused, and what each of them does.
-use mathlib.Core.Path.{_≡_, refl, sym, ap, _∙_}
-use mathlib.Core.Bool.{true}
+use mathlib.Core.Path.{_≡_, refl, ap}
 use mathlib.Core.List.{List, [], _∷_, _++_}
-use Prim.Native.Nat.{ℕ, _+_, _%_, _^_, _<_}
+use Prim.Native.Nat.{ℕ}
 use native.Mathlib.Omega.{arith}
 use lib.ListN.{replicate}
 use Rattle.rules.specs.declared.Answer.the-variants.{Done, One}
@@ -37,15 +36,12 @@ abbrev pub ready : HostOutcome
 ready = after start negotiated
 
 -- The calls that negotiate leave nothing but the versions of guest 0.
-pub ready-tables : ready .tables ≡ readyTables
+pub only-versions : (ready .tables ≡ readyTables) × (ready .memory ≡ zeros)
 unfolding computing next after
-ready-tables = refl
-
-abbrev pub setRing : HostOutcome
-setRing = hostEvent readyTables zeros (ring 0x80 2)
+only-versions = (refl, refl)
 
 -- 0x14 of 0x3c, base 0x80 n 2, is done: cpu 0's record is the ring, and nothing else changed.
-pub ring-is-set : setRing ≡ record {
+pub ring-is-set : hostEvent readyTables zeros (ring 0x80 2) ≡ record {
   answer = Done;
   tables = withPlant readyTables 0 (withQueue (readyGuest .plant) 0 0 (QueueRecord.Set (record { base = 0x80; size = 128; head = 0; tail = 0 })));
   memory = zeros;
@@ -53,10 +49,10 @@ pub ring-is-set : setRing ≡ record {
 unfolding computing
 ring-is-set = refl
 
--- A store is done: the eight bytes from its host offset on were 0 and are the word's, the most significant first.
 abbrev pub stored : ℕ → HostOutcome
 stored guest = next start (storing guest 0x100 0x0123_4567_89ab_cdef)
 
+-- A store is done: the eight bytes from its host offset on were 0 and are the word's, the most significant first.
 pub store-is-done : (stored 0 .answer ≡ Done) × (bytesAt start 0x100 8 ≡ replicate 8 0) × (bytesAt (stored 0) 0x100 8 ≡ 0x01 ∷ 0x23 ∷ 0x45 ∷ 0x67 ∷ 0x89 ∷ 0xab ∷ 0xcd ∷ 0xef ∷ [])
 unfolding computing next
 store-is-done = (refl, refl, refl)

@@ -1,11 +1,10 @@
 -- Not vacuous: demand 3, of the worked session's host and a second one that differs from it in all that may differ.
 use mathlib.Core.Path.{_≡_, refl, sym, _∙_}
+use mathlib.Core.Bool.{true}
 use mathlib.Core.List.{List, [], _∷_}
 use Prim.Native.Nat.{ℕ}
 use native.Mathlib.Omega.{arith}
-use mathlib.Core.Bool.{true}
 use lib.ListN.{length, replicate}
-use Rattle.rules.specs.declared.Answer.{Answer}
 use Rattle.rules.specs.declared.Answer.the-variants.{Done, One}
 use Rattle.rules.specs.declared.Event.{Event}
 use Rattle.rules.specs.declared.Extent.{Extent}

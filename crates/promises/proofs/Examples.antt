@@ -5,6 +5,7 @@ use Rattle.rules.specs.declared.Answer.the-variants.{Done}
 use Rattle.rules.specs.Image.{load}
 use Rattle.rules.proofs.Examples.{cases, Hold, examples, workedImage, workedTables, worked-image}
 use Rattle.rules.proofs.AcceptedCalls.{AcceptedCalls, accepted-calls}
+use Rattle.rules.proofs.EntryCases.{EntryCases, entry-cases}
 
 -- the image of the worked session loads to the tables that one expects
 pub the-worked-image : load workedImage ≡ record { answer = Done; tables = workedTables }
@@ -17,3 +18,7 @@ the-examples = examples
 -- the worked session prints what the paper says, and the sessions of accepted calls answer their numbers
 pub the-accepted-calls : AcceptedCalls
 the-accepted-calls = accepted-calls
+
+-- tables that each break one rule answer 101, and the other refusals at the entry are as the paper says
+pub the-entry-cases : EntryCases
+the-entry-cases = entry-cases

@@ -17,6 +17,7 @@ pub mod KeptTables
 pub mod KeptTsbs
 pub mod KeptVersions
 pub mod NotVacuous
+pub mod Refusals
 pub mod ScrubbedBytes
 pub mod StoredWord
 pub mod TwoHosts

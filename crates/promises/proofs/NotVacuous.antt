@@ -1,15 +1,15 @@
 -- Not vacuous: the worked session's host, at its start and after any events, meets what the promises ask for.
-use mathlib.Core.Path.{_≡_, refl, sym, ap, _∙_}
-use mathlib.Core.Bool.{Bool, true, false, and-false}
+use mathlib.Core.Path.{_≡_, refl, ap, _∙_}
+use mathlib.Core.Bool.{true, false, and-false}
 use mathlib.Core.List.{List, [], _∷_}
 use Prim.Native.Nat.{ℕ, zero, suc, _+_, _≤_, _<_}
 use native.Mathlib.Omega.{arith}
-use lib.Dec.{leb}
 use lib.ListN.{length}
 use borrow.Author.Tests.{le-leb, lt-leb}
 use Rattle.rules.specs.declared.Event.{Event}
 use Rattle.rules.specs.declared.Extents.{Extents}
 use Rattle.rules.specs.declared.Owner.{Owner}
+use Rattle.rules.specs.declared.Tables.{Tables}
 use Rattle.rules.specs.Kept.{guestAt, extentsOf}
 use Rattle.rules.specs.Rulings.{granted}
 use Rattle.rules.specs.Image.{readImage}
@@ -24,7 +24,8 @@ use Rattle.memory.proofs.Isolation.{owns}
 use Rattle.promises.proofs.Accepted.{load-keeps}
 use Rattle.promises.proofs.KeptTables.{event-keeps}
 use Rattle.promises.proofs.Isolation.{isolation, nobodys-bytes}
-use Rattle.promises.proofs.AloneSteps.{event-steady, long-same}
+use Rattle.promises.proofs.AloneSteps.{machineOf, event-steady, long-same}
+use Rattle.promises.proofs.Alone.{belongs, ownEvents, ownAnswers, guestAfter, answersAlone, machineAfter, alone}
 
 -- what the promises ask of a host: it passes 101 and 102
 pub record Passes (o : HostOutcome) : Type 0 where
@@ -84,10 +85,10 @@ reached events = after start events
 pub worked-passes-after : (events : List Event) → Passes (reached events)
 worked-passes-after events = passes-after events start worked-passes
 
--- guest 1 is there, and its page is host offsets 8,192 to 16,383
-guest-1-there : (events : List Event) → 1 < reached events .tables .guests
+-- guests 0 and 1 are there, and guest 1's page is host offsets 8,192 to 16,383
+guests-there : (events : List Event) (g : ℕ) → g < 2 → g < reached events .tables .guests
 unfolding computing
-guest-1-there events = rw (guests-after events start worked-passes) (omega arith)
+guests-there events g h = rw (guests-after events start worked-passes) h
 
 guest-1-first : (k : ℕ) → 8192 ≤ k → k < 16384 → owns (extentsOf (start .tables) 1) k ≡ true
 unfolding computing owns
@@ -116,7 +117,7 @@ module _ (events : List Event) (event : Event) where
   unfolding next
   neighbour-unchanged other =
       let p = worked-passes-after events in
-      let i = isolation (reached events .tables) (reached events .memory) event (p .keep) (p .long) 1 (guest-1-there events) other in
+      let i = isolation (reached events .tables) (reached events .memory) event (p .keep) (p .long) 1 (guests-there events 1 (omega arith)) other in
       (i .0, λ k l h. i .1 k (guest-1-page events k l h))
 
   -- and every event leaves the bytes from host offset 16,384 on.
@@ -132,3 +133,17 @@ pub store-unseen : (address value : ℕ)
     × ((k : ℕ) → 8192 ≤ k → k < 16384 → cell (next start (storing 0 address value) .memory) k ≡ cell (start .memory) k)
 unfolding after ownerOf
 store-unseen address value = neighbour-unchanged [] (storing 0 address value) (λ e. let z : _≡_ {A = ℕ} 0 1 = cc in omega arith)
+
+-- Alone, there: after any events, and for any later ones, guest 0 and guest 1 each get what its machine alone gives.
+module _ (events later : List Event) (g : ℕ) (there : g < 2) where
+  abbrev tables : Tables
+  tables = reached events .tables
+
+  abbrev memory : List ℕ
+  memory = reached events .memory
+
+  pub worked-alone : (ownAnswers (belongs tables g) tables memory later ≡ answersAlone (machineOf tables memory g) (ownEvents (belongs tables g) later))
+      × (guestAfter tables memory g later ≡ machineAfter (machineOf tables memory g) (ownEvents (belongs tables g) later))
+  worked-alone =
+      let p = worked-passes-after events in
+      alone tables memory g later (p .keep) (p .long) (guests-there events g there)

@@ -1,13 +1,12 @@
 -- Not vacuous: on every host that passes 101 and 102, a guest that stores a word where it may, loads it.
 use mathlib.Core.Path.{_≡_, refl, ap, _∙_}
 use mathlib.Core.Bool.{true}
-use mathlib.Core.List.{List, [], _∷_}
-use Prim.Native.Nat.{ℕ, _+_, _%_, _^_, _<_}
+use Prim.Native.Nat.{ℕ, _%_, _^_, _<_}
 use native.Mathlib.Omega.{arith}
 use borrow.Author.Tests.{eq-eqb}
 use Rattle.rules.specs.declared.Answer.the-variants.{Done, One}
-use Rattle.rules.specs.Kept.{plantAt, extentsOf}
-use Rattle.rules.specs.Real.{Sight, sightOf, valid, wordBytes}
+use Rattle.rules.specs.Kept.{extentsOf}
+use Rattle.rules.specs.Real.{valid, wordBytes}
 use Rattle.rules.specs.Rulings.{Outcome}
 use Rattle.rules.specs.Memory.{wholeWord, store-word, load-word}
 use Rattle.rules.specs.Host.{HostOutcome, plantRule, ownerOf}
@@ -16,7 +15,7 @@ use Rattle.rules.proofs.AcceptedCalls.{storing, loading}
 use Rattle.memory.specs.Cells.{one}
 use Rattle.memory.proofs.Places.{valid-part}
 use Rattle.memory.proofs.Sights.{over, after, stored-word}
-use Rattle.promises.proofs.AloneSteps.{Machine, did, moved, machineOf, own-step}
+use Rattle.promises.proofs.AloneSteps.{Machine, did, machineOf, own-step}
 use Rattle.promises.proofs.NotVacuous.{Passes, event-passes, guests-stay}
 
 module _ (o : HostOutcome) (p : Passes o) (g : ℕ) (there : g < o .tables .guests) (address value : ℕ) (aligned : address % 8 ≡ 0) (own : valid (extentsOf (o .tables) g) address 8 ≡ true) (word : value < 2 ^ 64) where

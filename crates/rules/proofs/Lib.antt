@@ -1,5 +1,6 @@
 pub mod AcceptedCalls
 pub mod Computing
+pub mod EntryCases
 pub mod Examples
 pub mod Scan
 pub mod Tests
