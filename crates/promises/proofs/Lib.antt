@@ -3,6 +3,7 @@ pub mod AcceptedEvents
 pub mod Alone
 pub mod AloneSteps
 pub mod Determined
+pub mod DeterminedInside
 pub mod Elsewhere
 pub mod Examples
 pub mod Isolation
