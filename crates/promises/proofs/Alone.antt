@@ -28,27 +28,27 @@ abbrev pub belongs : Tables → ℕ → Event → Bool
 belongs tables g event = isOwner g (ownerOf tables event)
 
 -- the events of a list that belong to guest g, in their order
-pub ownEvents : (Event → Bool) → List Event → List Event
+unfoldable pub ownEvents : (Event → Bool) → List Event → List Event
 ownEvents own [] = []
 ownEvents own (e ∷ es) = cond (own e) (e ∷ ownEvents own es) (ownEvents own es)
 
 -- a host over a list of events: its answers to those of one guest, and the host afterwards
-pub ownAnswers : (Event → Bool) → Tables → List ℕ → List Event → List Answer
+unfoldable pub ownAnswers : (Event → Bool) → Tables → List ℕ → List Event → List Answer
 ownAnswers own tables memory [] = []
 ownAnswers own tables memory (e ∷ es) =
     let o : HostOutcome = hostEvent tables memory e in
     cond (own e) (o .answer ∷ ownAnswers own (o .tables) (o .memory) es) (ownAnswers own (o .tables) (o .memory) es)
 
-pub guestAfter : Tables → List ℕ → ℕ → List Event → Machine
+unfoldable pub guestAfter : Tables → List ℕ → ℕ → List Event → Machine
 guestAfter tables memory g [] = machineOf tables memory g
 guestAfter tables memory g (e ∷ es) = guestAfter (hostEvent tables memory e .tables) (hostEvent tables memory e .memory) g es
 
 -- the machine over a list of its events
-pub answersAlone : Machine → List Event → List Answer
+unfoldable pub answersAlone : Machine → List Event → List Answer
 answersAlone m [] = []
 answersAlone m (e ∷ es) = did m e .answer ∷ answersAlone (moved m e) es
 
-pub machineAfter : Machine → List Event → Machine
+unfoldable pub machineAfter : Machine → List Event → Machine
 machineAfter m [] = m
 machineAfter m (e ∷ es) = machineAfter (moved m e) es
 

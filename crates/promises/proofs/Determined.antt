@@ -1,5 +1,6 @@
 -- Promise: no second outcome. Over each public function's own contract, as its source states it: two results that meet it, and
--- two last contents of each lent buffer, are equal.
+-- two last contents of each lent buffer, are equal. Post is the contract's `ensures`; κs and a are what a call is given (lifetimes
+-- and arguments), r and s two results, and ws and vs what the borrowed arguments hold at the end.
 use mathlib.Core.Path.{_≡_, sym, _∙_}
 use mathlib.Core.List.{List}
 use Prim.Native.Nat.{ℕ}

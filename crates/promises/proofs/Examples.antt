@@ -1,9 +1,11 @@
--- Promise: the rules answer as the paper's examples say. The list and its proof stand beside the rules they speak of, in
--- crate rules, so that a wrong rule is refused there; this is the claim.
+-- Promise: the rules answer as the paper's examples say. The lists and their proofs stand beside the rules they speak of, in
+-- crate rules, so that a wrong rule is refused there; these are the claims.
 use mathlib.Core.Path.{_≡_}
 use Rattle.rules.specs.declared.Answer.the-variants.{Done}
 use Rattle.rules.specs.Image.{load}
 use Rattle.rules.proofs.Examples.{cases, Hold, examples, workedImage, workedTables, worked-image}
+use Rattle.rules.proofs.AcceptedCalls.{AcceptedCalls, accepted-calls}
+use Rattle.rules.proofs.EntryCases.{EntryCases, entry-cases}
 
 -- the image of the worked session loads to the tables that one expects
 pub the-worked-image : load workedImage ≡ record { answer = Done; tables = workedTables }
@@ -12,3 +14,11 @@ the-worked-image = worked-image
 -- every case that the paper marks P holds
 pub the-examples : Hold cases
 the-examples = examples
+
+-- the worked session prints what the paper says, and the sessions of accepted calls answer their numbers
+pub the-accepted-calls : AcceptedCalls
+the-accepted-calls = accepted-calls
+
+-- tables that each break one rule answer 101, and the other refusals at the entry are as the paper says
+pub the-entry-cases : EntryCases
+the-entry-cases = entry-cases

@@ -11,6 +11,7 @@ use borrow.Author.Tests.{ltb-true}
 use Rattle.rules.specs.declared.Event.{Event}
 use Rattle.rules.specs.declared.Owner.{Owner}
 use Rattle.rules.specs.declared.Refusal.{Refusal}
+use Rattle.rules.specs.declared.Refusal.the-variants.{BadTables, ShortMemory}
 use Rattle.rules.specs.declared.Tables.{Tables}
 use Rattle.rules.specs.Limits.{guestLimit, extentLimit}
 use Rattle.rules.specs.Kept.{guestAt, plantAt, extentsOf, hollowGuest}
@@ -67,3 +68,32 @@ module _ (tables : Tables) (memory : List ℕ) (event : Event) (keep : keepRules
   -- Bytes in nobody's pages are the same.
   pub nobodys-bytes : (k : ℕ) → ((g : ℕ) → g < tables .guests → owns (extentsOf tables g) k ≡ false) → cell (hostEvent tables memory event .memory) k ≡ cell memory k
   nobodys-bytes k other = ap (λ (o : HostOutcome). cell (o .memory) k) (event-settled tables memory event keep long) ∙ byte-kept (ownerOf tables event) k (λ g h e. other g h)
+
+-- Isolation with nothing asked of the tables and the memory: those that do not pass 101 and 102 are refused, and stay as they are.
+module _ (tables : Tables) (memory : List ℕ) (event : Event) where
+  refused-bad : keepRules tables ≡ false → hostRule tables memory event ≡ refused BadTables
+  unfolding hostRule
+  refused-bad e = rw e
+
+  refused-short : keepRules tables ≡ true → longEnough tables (length memory) ≡ false → hostRule tables memory event ≡ refused ShortMemory
+  unfolding hostRule
+  refused-short e l = rw (e, l)
+
+  pub isolation-always : (f : ℕ) → f < tables .guests → (ownerOf tables event ≡ Owner.Guest f → ⊥)
+      → (guestAt (hostEvent tables memory event .tables) f ≡ guestAt tables f)
+      × ((k : ℕ) → owns (extentsOf tables f) k ≡ true → cell (hostEvent tables memory event .memory) k ≡ cell memory k)
+  isolation-always f there other = go (keepRules tables) refl (longEnough tables (length memory)) refl
+    where
+      same : (r : Refusal) → hostRule tables memory event ≡ refused r
+          → (guestAt (hostEvent tables memory event .tables) f ≡ guestAt tables f)
+          × ((k : ℕ) → owns (extentsOf tables f) k ≡ true → cell (hostEvent tables memory event .memory) k ≡ cell memory k)
+      same r e =
+          let n = refused-at-entry tables memory event r e in
+          (ap (λ (t : Tables). guestAt t f) (n .0), λ k o. ap (λ (m : List ℕ). cell m k) (n .1))
+
+      go : (t : Bool) → keepRules tables ≡ t → (u : Bool) → longEnough tables (length memory) ≡ u
+          → (guestAt (hostEvent tables memory event .tables) f ≡ guestAt tables f)
+          × ((k : ℕ) → owns (extentsOf tables f) k ≡ true → cell (hostEvent tables memory event .memory) k ≡ cell memory k)
+      go true e true l = isolation tables memory event e l f there other
+      go true e false l = same ShortMemory (refused-short e l)
+      go false e u l = same BadTables (refused-bad e)

@@ -1,6 +1,13 @@
+pub mod AcceptedEvents
 pub mod Alone
 pub mod AloneSteps
 pub mod Determined
+pub mod DeterminedInside
+pub mod Elsewhere
 pub mod Examples
 pub mod Isolation
+pub mod NotVacuous
+pub mod Refusals
+pub mod ScrubbedBytes
+pub mod StoredWord
 pub mod TwoHosts

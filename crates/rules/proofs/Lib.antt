@@ -1,4 +1,7 @@
+pub mod AcceptedCalls
 pub mod Computing
+pub mod EntryCases
 pub mod Examples
 pub mod Scan
 pub mod Tests
+pub mod WorkedText

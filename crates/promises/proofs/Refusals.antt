@@ -1,0 +1,281 @@
+-- Promise: a refusal changes nothing, for every input. The paper says otherwise of two only: 0x102, and a mondo send that would
+-- block.
+use mathlib.Core.Path.{_≡_, refl, sym, ap, _∙_}
+use mathlib.Core.Bool.{Bool, true, false, _&&_, _||_, not, true≢false}
+use mathlib.Core.List.{List, []}
+use Prim.Native.Nat.{ℕ, _-_, _*_, _%_}
+use lib.Dec.{leb, ltb, eqb}
+use lib.ListN.{length}
+use lib.Seq.{set-getD}
+use Rattle.rules.specs.declared.Answer.{Answer}
+use Rattle.rules.specs.declared.Answer.the-variants.{Done, One, Two, Refused}
+use Rattle.rules.specs.declared.Call.{Call}
+use Rattle.rules.specs.declared.Event.{Event}
+use Rattle.rules.specs.declared.Function.{Function}
+use Rattle.rules.specs.declared.Owner.{Owner}
+use Rattle.rules.specs.declared.Plant.{Plant}
+use Rattle.rules.specs.declared.QueueRecord.{QueueRecord}
+use Rattle.rules.specs.declared.Refusal.{Refusal}
+use Rattle.rules.specs.declared.Refusal.the-variants.{EINVAL, EBADALIGN, ENORADDR, ENOCPU, EBADTRAP, ENOTSUPPORTED, EWOULDBLOCK, NoCaller, NoSource, BadTables, ShortMemory}
+use Rattle.rules.specs.declared.Tables.{Tables}
+use Rattle.rules.specs.declared.Target.{Target}
+use Rattle.rules.specs.Scan.{someBelow, allBelow}
+use Rattle.rules.specs.Kept.{plantAt, cpuAt, queueAt, sourceAt, extentsOf, hollowGuest, withStatistics}
+use Rattle.rules.specs.Real.{Sight, sightOf, bytesFrom, apply}
+use Rattle.rules.specs.Rulings.{Ruling, refused, granted, Outcome, outcomeOf, says, _or-refuse_then_, _grants_, if_then_else_}
+use Rattle.rules.specs.Versions.{groupOf, known, majorOf, newest, set-version, get-version}
+use Rattle.rules.specs.Queues.{isQueue, forward, hasRoom, newRing, ringOf, baseAndSize, cpu-qconf, cpu-qinfo, cpu-myid, write-head}
+use Rattle.rules.specs.Mondo.{entryAt, entries, Sent, sendAll, sentAs, cpu-mondo-send}
+use Rattle.rules.specs.Tsb.{newTsbs, mmu-tsb-ctx0, mmu-tsb-ctxnon0}
+use Rattle.rules.specs.Memory.{wholePages, mem-scrub, mem-sync, wholeWord, store-word, load-word, newStatistics, mmustat-conf, mmustat-info}
+use Rattle.rules.specs.Sources.{found, sysinoOf, devMondo, deliver, deliverTo, get-enabled, set-enabled, get-state, set-state, get-target, set-target, get-cookie, set-cookie, intr-devino2sysino, intr, vintr, raiseAt, raise}
+use Rattle.rules.specs.Calls.{functionOf, admitted, perform, call}
+use Rattle.rules.specs.Tables.{keepRules}
+use Rattle.rules.specs.Host.{HostOutcome, plantRule, ownerOf, longEnough, answeredBy, hostOutcomeOf, hostRule, hostEvent}
+
+-- an answer that is no refusal
+abbrev accepting : Answer → Bool
+accepting Done = true
+accepting (One v) = true
+accepting (Two v w) = true
+accepting (Refused r) = false
+
+module _ (plant : Plant) where
+  -- a ruling that leaves the plant's record and memory if it answers a refusal other than EWOULDBLOCK
+  abbrev pub Still : Ruling Outcome → Type 0
+  Still x = (r : Refusal) → (r ≡ EWOULDBLOCK → ⊥) → outcomeOf plant x .answer ≡ Refused r → (outcomeOf plant x .plant ≡ plant) × (outcomeOf plant x .writes ≡ [])
+
+  still-refused : (r : Refusal) → Still (refused r)
+  still-refused r s n e = (refl, refl)
+
+  still-granted : (o : Outcome) → accepting (o .answer) ≡ true → Still (granted o)
+  still-granted o a r n e = absurd (true≢false (sym a ∙ ap accepting e))
+
+  still-then : (t : Bool) (r : Refusal) (x : Ruling Outcome) → Still x → Still (t or-refuse r then x)
+  still-then true r x s = s
+  still-then false r x s = still-refused r
+
+  still-grants : {A : Type 0} (m : Ruling A) (k : A → Ruling Outcome) → ((a : A) → Still (k a)) → Still (m grants k)
+  still-grants (refused r) k s = still-refused r
+  still-grants (granted a) k s = s a
+
+  still-if : (t : Bool) (x y : Ruling Outcome) → Still x → Still y → Still (if t then x else y)
+  still-if true x y s u = s
+  still-if false x y s u = u
+
+  -- versions
+  set-version-still : (group major : ℕ) → Still (set-version plant group major)
+  unfolding set-version
+  set-version-still group major =
+      still-then (known (groupOf group)) EINVAL _
+      (still-then (leb 1 major && leb major (newest (groupOf group))) ENOTSUPPORTED _
+      (still-then (leb (majorOf (plant .versions) (groupOf group)) major) ENOTSUPPORTED _ (still-granted _ refl)))
+
+  get-version-still : (group : ℕ) → Still (get-version plant group)
+  unfolding get-version
+  get-version-still group =
+      still-then (known (groupOf group)) EINVAL _
+      (still-then (leb 1 (majorOf (plant .versions) (groupOf group))) EINVAL _ (still-granted _ refl))
+
+  -- queues
+  qconf-still : (v : ℕ → ℕ → Bool) (cpu queue base n : ℕ) → Still (cpu-qconf v plant cpu queue base n)
+  unfolding cpu-qconf
+  qconf-still v cpu queue base n =
+      still-then (isQueue queue) EINVAL _
+      (still-if (eqb n 0) _ _ (still-granted _ refl) (still-grants (newRing v base n) _ (λ ring. still-granted _ refl)))
+
+  base-accepting : (q : QueueRecord) → accepting (baseAndSize q) ≡ true
+  base-accepting QueueRecord.Unset = refl
+  base-accepting (QueueRecord.Set ring) = refl
+
+  qinfo-still : (cpu queue : ℕ) → Still (cpu-qinfo plant cpu queue)
+  unfolding cpu-qinfo
+  qinfo-still cpu queue = still-then (isQueue queue) EINVAL _ (still-granted _ (base-accepting (queueAt (cpuAt plant cpu) (queue - 0x3c))))
+
+  head-still : (cpu queue value : ℕ) → Still (write-head plant cpu queue value)
+  unfolding write-head
+  head-still cpu queue value =
+      still-then (isQueue queue) EINVAL _
+      (still-grants (ringOf (queueAt (cpuAt plant cpu) (queue - 0x3c))) _ (λ ring.
+      still-then (eqb (value % 64) 0) EBADALIGN _ (still-then (ltb value (ring .size) && leb (forward ring value) (forward ring (ring .tail))) EINVAL _ (still-granted _ refl))))
+
+  -- a mondo send: what is left is told by EWOULDBLOCK
+  sent-still : (s : Sent) (t : Bool) → s .all ≡ t → Still (granted (sentAs s))
+  sent-still s true q r n e = absurd (true≢false (ap accepting (rw q at e)))
+  sent-still s false q r n e = absurd (n (sym (blocked r (rw q at e))))
+    where
+      blocked : (r : Refusal) → Refused EWOULDBLOCK ≡ Refused r → EWOULDBLOCK ≡ r
+      blocked r e = cc
+
+  mondo-still : (sight : Sight) (cpu count list dataAt : ℕ) → Still (cpu-mondo-send sight plant cpu count list dataAt)
+  unfolding cpu-mondo-send
+  mondo-still sight cpu count list dataAt =
+      still-then (leb 1 count && leb count 64) EINVAL _
+      (still-then (eqb (dataAt % 64) 0 && eqb (list % 2) 0) EBADALIGN _
+      (still-then (sight .valid dataAt 64 && sight .valid list (2 * count)) ENORADDR _
+      (still-then (not (someBelow count (λ i. eqb (entryAt (sight .byte) list i) cpu))) EINVAL _
+      (still-then (allBelow count (λ i. ltb (entryAt (sight .byte) list i) (plant .cpus))) ENOCPU _
+      (sent-still (sendAll plant (entries (sight .byte) list count) (bytesFrom (sight .byte) dataAt 64) list) _ refl)))))
+
+  -- TSB lists and memory
+  ctx0-still : (sight : Sight) (cpu ntsb pointer : ℕ) → Still (mmu-tsb-ctx0 sight plant cpu ntsb pointer)
+  unfolding mmu-tsb-ctx0
+  ctx0-still sight cpu ntsb pointer = still-grants (newTsbs sight ntsb pointer) _ (λ tsbs. still-granted _ refl)
+
+  ctxnon0-still : (sight : Sight) (cpu ntsb pointer : ℕ) → Still (mmu-tsb-ctxnon0 sight plant cpu ntsb pointer)
+  unfolding mmu-tsb-ctxnon0
+  ctxnon0-still sight cpu ntsb pointer = still-grants (newTsbs sight ntsb pointer) _ (λ tsbs. still-granted _ refl)
+
+  pages-still : (v : ℕ → ℕ → Bool) (address len : ℕ) (x : Ruling Outcome) → Still x → Still (wholePages v address len x)
+  unfolding wholePages
+  pages-still v address len x s = still-then (not (eqb len 0)) EINVAL _ (still-then (eqb (address % 8192) 0 && eqb (len % 8192) 0) EBADALIGN _ (still-then (v address len) ENORADDR x s))
+
+  word-still : (v : ℕ → ℕ → Bool) (address : ℕ) (x : Ruling Outcome) → Still x → Still (wholeWord v address x)
+  unfolding wholeWord
+  word-still v address x s = still-then (eqb (address % 8) 0) EBADALIGN _ (still-then (v address 8) ENORADDR x s)
+
+  -- sources
+  set-enabled-still : (i value : ℕ) → Still (set-enabled plant i value)
+  unfolding set-enabled
+  set-enabled-still i value = still-then (leb value 1) EINVAL _ (still-then (not (eqb value 1 && (eqb (plant .versions .interrupt) 2 && eqb (sourceAt plant i .cookie) 0))) EINVAL _ (still-granted _ refl))
+
+  set-state-still : (i value : ℕ) → Still (set-state plant i value)
+  unfolding set-state
+  set-state-still i value = still-then (leb value 2) EINVAL _ (still-granted _ refl)
+
+  set-target-still : (i value : ℕ) → Still (set-target plant i value)
+  unfolding set-target
+  set-target-still i value = still-then (ltb value (plant .cpus)) ENOCPU _ (still-granted _ refl)
+
+  set-cookie-still : (i value : ℕ) → Still (set-cookie plant i value)
+  unfolding set-cookie
+  set-cookie-still i value = still-then (eqb value 0 || ltb 2047 value) EINVAL _ (still-if (eqb value 0) _ _ (still-granted _ refl) (still-granted _ refl))
+
+  devino-still : (devhandle devino : ℕ) → Still (intr-devino2sysino plant devhandle devino)
+  unfolding intr-devino2sysino
+  devino-still devhandle devino = still-grants (found EINVAL (sysinoOf plant devhandle devino)) _ (λ i. still-granted _ refl)
+
+  intr-still : (function sysino value : ℕ) → Still (intr plant function sysino value)
+  unfolding intr get-enabled get-state get-target
+  intr-still function sysino value =
+      still-then (ltb sysino (plant .sources)) EINVAL _
+      (still-if (eqb function 0xa1) _ _ (still-granted _ refl)
+      (still-if (eqb function 0xa2) _ _ (set-enabled-still sysino value)
+      (still-if (eqb function 0xa3) _ _ (still-granted _ refl)
+      (still-if (eqb function 0xa4) _ _ (set-state-still sysino value)
+      (still-if (eqb function 0xa5) _ _ (still-granted _ refl)
+      (still-if (eqb function 0xa6) _ _ (set-target-still sysino value) (still-refused EBADTRAP)))))))
+
+  vintr-still : (function devhandle devino value : ℕ) → Still (vintr plant function devhandle devino value)
+  unfolding vintr get-cookie get-enabled get-state get-target
+  vintr-still function devhandle devino value =
+      still-grants (found EINVAL (sysinoOf plant devhandle devino)) _ (λ i.
+      still-then (sourceAt plant i .cookies) ENOTSUPPORTED _
+      (still-if (eqb function 0xa7) _ _ (still-granted _ refl)
+      (still-if (eqb function 0xa8) _ _ (set-cookie-still i value)
+      (still-if (eqb function 0xa9) _ _ (still-granted _ refl)
+      (still-if (eqb function 0xaa) _ _ (set-enabled-still i value)
+      (still-if (eqb function 0xab) _ _ (still-granted _ refl)
+      (still-if (eqb function 0xac) _ _ (set-state-still i value)
+      (still-if (eqb function 0xad) _ _ (still-granted _ refl)
+      (still-if (eqb function 0xae) _ _ (set-target-still i value) (still-refused EBADTRAP))))))))))
+
+  -- a raise
+  ring-accepting : (i c : ℕ) (q : QueueRecord) → accepting (deliverTo plant i c q .answer) ≡ true
+  ring-accepting i c QueueRecord.Unset = refl
+  ring-accepting i c (QueueRecord.Set ring) = room (hasRoom ring) refl
+    where
+      room : (t : Bool) → hasRoom ring ≡ t → accepting (deliverTo plant i c (QueueRecord.Set ring) .answer) ≡ true
+      room true q = rw q
+      room false q = rw q
+
+  deliver-accepting : (i : ℕ) (t : Target) → accepting (deliver plant i t .answer) ≡ true
+  deliver-accepting i Target.Unset = refl
+  deliver-accepting i (Target.Cpu c) = ring-accepting i c (queueAt (cpuAt plant c) devMondo)
+
+  raise-still : (devhandle devino : ℕ) → Still (raise plant devhandle devino)
+  unfolding raise raiseAt
+  raise-still devhandle devino =
+      still-grants (found NoSource (sysinoOf plant devhandle devino)) _ (λ i.
+      still-if (eqb (sourceAt plant i .state) 2) _ _ (still-granted _ refl)
+      (still-if (eqb (sourceAt plant i .enabled) 1) _ _ (still-granted _ (deliver-accepting i (sourceAt plant i .target))) (still-granted _ refl)))
+
+  -- every call but 0x102
+  module _ (sight : Sight) (c : Call) where
+    group-still : (t : Bool) (f : Function) → Still (perform sight plant c f) → Still ((t or-refuse EBADTRAP then granted f) grants λ f. perform sight plant c f)
+    group-still true f s = s
+    group-still false f s = still-refused EBADTRAP
+
+    perform-still : (f : Function) → (f ≡ Function.MmustatConf → ⊥) → Still (admitted (plant .versions) f grants λ f. perform sight plant c f)
+    unfolding admitted perform cpu-myid mmustat-info mem-scrub mem-sync
+    perform-still Function.Unknown n = still-refused EBADTRAP
+    perform-still Function.SetVersion n = set-version-still (c .arg0) (c .arg1)
+    perform-still Function.GetVersion n = get-version-still (c .arg0)
+    perform-still Function.CpuQconf n = group-still (leb 1 (plant .versions .core)) Function.CpuQconf (qconf-still (sight .valid) (c .cpu) (c .arg0) (c .arg1) (c .arg2))
+    perform-still Function.CpuQinfo n = group-still (leb 1 (plant .versions .core)) Function.CpuQinfo (qinfo-still (c .cpu) (c .arg0))
+    perform-still Function.CpuMyid n = group-still (leb 1 (plant .versions .core)) Function.CpuMyid (still-granted _ refl)
+    perform-still Function.CpuMondoSend n = group-still (leb 1 (plant .versions .core)) Function.CpuMondoSend (mondo-still sight (c .cpu) (c .arg0) (c .arg1) (c .arg2))
+    perform-still Function.MmuTsbCtx0 n = group-still (leb 1 (plant .versions .core)) Function.MmuTsbCtx0 (ctx0-still sight (c .cpu) (c .arg0) (c .arg1))
+    perform-still Function.MmuTsbCtxnon0 n = group-still (leb 1 (plant .versions .core)) Function.MmuTsbCtxnon0 (ctxnon0-still sight (c .cpu) (c .arg0) (c .arg1))
+    perform-still Function.MemScrub n = group-still (leb 1 (plant .versions .core)) Function.MemScrub (pages-still (sight .valid) (c .arg0) (c .arg1) _ (still-granted _ refl))
+    perform-still Function.MemSync n = group-still (leb 1 (plant .versions .core)) Function.MemSync (pages-still (sight .valid) (c .arg0) (c .arg1) _ (still-granted _ refl))
+    perform-still Function.MmustatConf n = absurd (n refl)
+    perform-still Function.MmustatInfo n = group-still (leb 1 (plant .versions .statistics)) Function.MmustatInfo (still-granted _ refl)
+    perform-still (Function.Sysino k) n = go (leb 1 (plant .versions .interrupt)) (eqb (plant .versions .interrupt) 1)
+      where
+        go : (t u : Bool) → Still ((t or-refuse EBADTRAP then u or-refuse ENOTSUPPORTED then granted (Function.Sysino k)) grants λ f. perform sight plant c f)
+        go true true = still-if (eqb k 0xa0) _ _ (devino-still (c .arg0) (c .arg1)) (intr-still k (c .arg0) (c .arg1))
+        go true false = still-refused ENOTSUPPORTED
+        go false u = still-refused EBADTRAP
+    perform-still (Function.Cookie k) n = go (eqb (plant .versions .interrupt) 2)
+      where
+        go : (t : Bool) → Still ((t or-refuse EBADTRAP then granted (Function.Cookie k)) grants λ f. perform sight plant c f)
+        go true = vintr-still k (c .arg0) (c .arg1) (c .arg2)
+        go false = still-refused EBADTRAP
+
+-- an event that is no call of 0x102
+abbrev pub NotStatistics : Event → Type 0
+NotStatistics (Event.Call c) = functionOf (c .trap) (c .function) ≡ Function.MmustatConf → ⊥
+NotStatistics (Event.Head h) = Unit {0}
+NotStatistics (Event.Raise d) = Unit {0}
+NotStatistics (Event.Load l) = Unit {0}
+NotStatistics (Event.Store s) = Unit {0}
+
+plant-still : (sight : Sight) (plant : Plant) (event : Event) → NotStatistics event → Still plant (plantRule sight plant event)
+unfolding plantRule call load-word store-word
+plant-still sight plant (Event.Call c) n = still-then plant (ltb (c .cpu) (plant .cpus)) NoCaller _ (perform-still plant sight c (functionOf (c .trap) (c .function)) n)
+plant-still sight plant (Event.Head h) n = still-then plant (ltb (h .cpu) (plant .cpus)) NoCaller _ (head-still plant (h .cpu) (h .queue) (h .value))
+plant-still sight plant (Event.Raise d) n = raise-still plant (d .devhandle) (d .devino)
+plant-still sight plant (Event.Load l) n = word-still plant (sight .valid) (l .address) _ (still-granted plant _ refl)
+plant-still sight plant (Event.Store s) n = word-still plant (sight .valid) (s .address) _ (still-granted plant _ refl)
+
+module _ (tables : Tables) (memory : List ℕ) (event : Event) (other : NotStatistics event) (r : Refusal) (more : r ≡ EWOULDBLOCK → ⊥) where
+  abbrev Unchanged : Ruling HostOutcome → Type 0
+  Unchanged x = hostOutcomeOf tables memory x .answer ≡ Refused r → (hostOutcomeOf tables memory x .tables ≡ tables) × (hostOutcomeOf tables memory x .memory ≡ memory)
+
+  by-owner : (w : Owner) → Unchanged (answeredBy tables memory event w)
+  unfolding apply
+  by-owner Owner.Nobody = λ e. (refl, refl)
+  by-owner (Owner.Guest g) = go (ltb g (tables .guests)) refl
+    where
+      go : (t : Bool) → ltb g (tables .guests) ≡ t → Unchanged (answeredBy tables memory event (Owner.Guest g))
+      go true q = rw q (λ e.
+          let s = plant-still (sightOf (extentsOf tables g) memory) (plantAt tables g) event other r more e in
+          rw (s .0, s .1) (ap (λ l. record { guests = tables .guests; guest = l }) (set-getD (tables .guest) g hollowGuest), refl))
+      go false q = rw q (λ e. (refl, refl))
+
+  -- For every tables, memory and event, an answer that is a refusal leaves the tables and every byte of memory as they were.
+  pub refusal-changes-nothing : hostEvent tables memory event .answer ≡ Refused r → (hostEvent tables memory event .tables ≡ tables) × (hostEvent tables memory event .memory ≡ memory)
+  unfolding hostEvent hostRule
+  refusal-changes-nothing = go (keepRules tables) (longEnough tables (length memory))
+    where
+      go : (t u : Bool) → Unchanged (t or-refuse BadTables then u or-refuse ShortMemory then answeredBy tables memory event (ownerOf tables event))
+      go true true = by-owner (ownerOf tables event)
+      go true false = λ e. (refl, refl)
+      go false u = λ e. (refl, refl)
+
+-- The two others, of a plant: a refused 0x102 sets the statistics address to 0, and does nothing else.
+pub refused-statistics : (v : ℕ → ℕ → Bool) (plant : Plant) (cpu address : ℕ) (r : Refusal) → newStatistics v address ≡ refused r
+    → mmustat-conf v plant cpu address ≡ says (Refused r) (withStatistics plant cpu 0)
+unfolding mmustat-conf
+refused-statistics v plant cpu address r e = rw e
