@@ -14,6 +14,11 @@ use Rattle.tables.proofs.long_enough.Reads as long-enough-reads
 use Rattle.host.proofs.event.Reads as event-reads
 use Rattle.host.proofs.entry_of.Reads as entry-of-reads
 use Rattle.host.proofs.seat_of.Reads as seat-of-reads
+use Rattle.session.specs.declared.feeder.Fed.{Fed}
+use Rattle.session.specs.Feeding.{Progress, Feeds}
+use Rattle.session.proofs.begin.Reads as begin-reads
+use Rattle.session.proofs.feed.Reads as feed-reads
+use Rattle.session.proofs.finish.Reads as finish-reads
 use Rattle.text.proofs.parse_line.Reads as parse-line-reads
 use Rattle.text.proofs.image_bytes.Reads as image-bytes-reads
 use Rattle.text.proofs.numbers_of.Reads as numbers-of-reads
@@ -66,3 +71,26 @@ put-status-determined κs a r s ws vs p q = (p .0 ∙ sym (q .0), p .1 ∙ sym (
 
 pub put-bad-determined : (κs : _) (a : _) (r s : _) (ws vs : _) → put-bad-reads.Post κs a r ws → put-bad-reads.Post κs a s vs → (r ≡ s) × (now (ws .0) ≡ now (vs .0))
 put-bad-determined κs a r s ws vs p q = (p .0 ∙ sym (q .0), p .1 ∙ sym (q .1))
+
+-- session: what is kept between two pieces of input, the bytes of memory, and the bytes of the answers
+pub begin-determined : (κs : _) (a : _) (r s : _) (ws vs : _) → begin-reads.Post κs a r ws → begin-reads.Post κs a s vs → r ≡ s
+begin-determined κs a r s ws vs p q = p ∙ sym q
+
+one-progress : (o : Progress) (n : ℕ) (b : List ℕ) (r s : Fed) (m k w v : List ℕ) → Feeds o n b r m w → Feeds o n b s k v → (r ≡ s) × (m ≡ k) × (w ≡ v)
+one-progress o n b r s m k w v p q = (
+  (λ i. record {
+    feeder = record { tables = (p .tables ∙ sym (q .tables)) i; line = (p .line ∙ sym (q .line)) i; held = (p .held ∙ sym (q .held)) i };
+    taken = (p .taken ∙ sym (q .taken)) i;
+    written = (p .written ∙ sym (q .written)) i;
+  }),
+  p .memory ∙ sym (q .memory),
+  p .out ∙ sym (q .out),
+)
+
+pub feed-determined : (κs : _) (a : _) (r s : _) (ws vs : _) → feed-reads.Post κs a r ws → feed-reads.Post κs a s vs
+    → (r ≡ s) × (now (ws .1 .0) ≡ now (vs .1 .0)) × (now (ws .1 .1 .1 .0) ≡ now (vs .1 .1 .1 .0))
+feed-determined κs a r s ws vs p q = one-progress _ _ _ r s _ _ _ _ p q
+
+pub finish-determined : (κs : _) (a : _) (r s : _) (ws vs : _) → finish-reads.Post κs a r ws → finish-reads.Post κs a s vs
+    → (r ≡ s) × (now (ws .1 .0) ≡ now (vs .1 .0)) × (now (ws .1 .1 .0) ≡ now (vs .1 .1 .0))
+finish-determined κs a r s ws vs p q = one-progress _ _ _ r s _ _ _ _ p q

@@ -3,3 +3,4 @@ pub mod AskLaws
 pub mod FeedLaws
 pub mod Fits
 pub mod ReplyLaws
+pub mod Whole
