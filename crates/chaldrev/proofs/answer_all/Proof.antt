@@ -1,3 +1,4 @@
+-- `chaldrev::answer_all` is safe, and ends.
 use mathlib.Core.Path.{_≡_, refl}
 use Prim.{tt}
 use lib.ListN.{length}
@@ -5,10 +6,6 @@ use native.Mathlib.Omega.{arith}
 use borrow.Author.Needs.{needs}
 use Rattle.chaldrev.proofs.answer_all.Statement.{statement}
 use Rattle.chaldrev.proofs.answer_all.Tie as tie
-use Rattle.chaldrev.proofs.answer_all.Reads as reads
-use Rattle.chaldrev.proofs.answer_all.Lts as lts
-use Rattle.chaldrev.proofs.answer_some.Reads as answer-some-reads
-use Rattle.session.proofs.begin.Reads as begin-reads
 
 abbrev Inv-loop : tie.InvT-loop
 Inv-loop mem₀ input₀ out₀ feeder₀ on₀ turns₀ mem input out feeder on turns = (length mem ≡ length mem₀) × (length input ≡ length input₀) × (length out ≡ length out₀)
@@ -16,59 +13,45 @@ Inv-loop mem₀ input₀ out₀ feeder₀ on₀ turns₀ mem input out feeder on
 abbrev μ-loop : tie.MeasureT-loop
 μ-loop mem₀ input₀ out₀ feeder₀ on₀ turns₀ mem input out feeder on turns = turns
 
--- src/main.rt:35:9
 begin-requires : tie.Need-begin-requires Inv-loop μ-loop
 begin-requires c κs = search needs
 
--- src/main.rt:38:5
 loop-holds : tie.Need-loop-holds Inv-loop μ-loop
 loop-holds c = (refl, refl, refl)
 
--- src/main.rt:39:9
 sub-turns : tie.Need-sub-turns Inv-loop μ-loop
 sub-turns c = omega arith
 
--- src/main.rt:40:13
 answer-some-requires : tie.Need-answer-some-requires Inv-loop μ-loop
 answer-some-requires c κs = search needs
 
--- src/main.rt:38:5
 loop-less : tie.Need-loop-less Inv-loop μ-loop
 loop-less c = omega arith
 
--- src/main.rt:38:5
 loop-again : tie.Need-loop-again Inv-loop μ-loop
 loop-again c = search needs
 
--- src/main.rt:34:1
 same-length : tie.Need-same-length Inv-loop μ-loop
 same-length c = search needs
 
--- src/main.rt:34:1
 same-length-2 : tie.Need-same-length-2 Inv-loop μ-loop
 same-length-2 c = search needs
 
--- src/main.rt:34:1
 same-length-3 : tie.Need-same-length-3 Inv-loop μ-loop
 same-length-3 c = search needs
 
--- src/main.rt:34:1
 returns : tie.Need-returns Inv-loop μ-loop
 returns c = tt
 
--- src/main.rt:34:1
 same-length-4 : tie.Need-same-length-4 Inv-loop μ-loop
 same-length-4 c = search needs
 
--- src/main.rt:34:1
 same-length-5 : tie.Need-same-length-5 Inv-loop μ-loop
 same-length-5 c = search needs
 
--- src/main.rt:34:1
 same-length-6 : tie.Need-same-length-6 Inv-loop μ-loop
 same-length-6 c = search needs
 
--- src/main.rt:34:1
 returns-2 : tie.Need-returns-2 Inv-loop μ-loop
 returns-2 c = tt
 

@@ -1,68 +1,48 @@
-use native.Mathlib.Omega.{arith}
+-- `chaldrev::answer_some` is safe: the answers that were written lie in the buffer.
 use borrow.Author.Needs.{needs}
 use Rattle.session.proofs.Fits.{written-fits, written-taken}
 use Rattle.chaldrev.proofs.answer_some.Statement.{statement}
 use Rattle.chaldrev.proofs.answer_some.Tie as tie
-use Rattle.chaldrev.proofs.answer_some.Reads as reads
-use Rattle.chaldrev.proofs.answer_some.Lts as lts
-use Rattle.io.proofs.count.Reads as count-reads
-use Rattle.io.proofs.write_all.Reads as write-all-reads
-use Rattle.libc.proofs.read.Reads as read-reads
-use Rattle.session.proofs.feed.Reads as feed-reads
 
--- src/main.rt:21:9
 read-requires : tie.Need-read-requires
 read-requires c κs = search needs
 
--- src/main.rt:22:9
 count-requires : tie.Need-count-requires
 count-requires c κs = search needs
 
--- src/main.rt:24:9
 same-length : tie.Need-same-length
 same-length c = search needs
 
--- src/main.rt:24:9
 returns : tie.Need-returns
 returns c = search needs
 
--- src/main.rt:26:42
 slice-reshare-prefix-feed : tie.Need-slice-reshare-prefix-feed
 slice-reshare-prefix-feed c = search needs
 
--- src/main.rt:26:42
 slice-aggregate-feed : tie.Need-slice-aggregate-feed
 slice-aggregate-feed c = search needs
 
--- src/main.rt:26:9
 feed-requires : tie.Need-feed-requires
 feed-requires c κs = search needs
 
--- src/main.rt:28:43
 slice-reshare-prefix-write-all : tie.Need-slice-reshare-prefix-write-all
 slice-reshare-prefix-write-all c = written-fits _ _ _ _ _ _ _ _ (c .before .before .before .before .feed .ensures)
 
--- src/main.rt:28:43
 slice-aggregate-write-all : tie.Need-slice-aggregate-write-all
 slice-aggregate-write-all c = written-taken _ _ _ _ _ _ _ _ (c .before .before .before .before .before .feed .ensures)
 
--- src/main.rt:28:9
 write-all-requires : tie.Need-write-all-requires
 write-all-requires c κs = search needs
 
--- src/main.rt:20:1
 same-length-2 : tie.Need-same-length-2
 same-length-2 c = search needs
 
--- src/main.rt:20:1
 same-length-3 : tie.Need-same-length-3
 same-length-3 c = search needs
 
--- src/main.rt:20:1
 same-length-4 : tie.Need-same-length-4
 same-length-4 c = search needs
 
--- src/main.rt:20:1
 returns-2 : tie.Need-returns-2
 returns-2 c = search needs
 

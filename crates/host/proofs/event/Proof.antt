@@ -1,63 +1,45 @@
+-- `host::event` meets its contract: by the seat of the event.
 use native.Mathlib.Omega.{arith}
 use borrow.Author.Needs.{needs}
 use mathlib.Core.Path.{refl}
 use Rattle.host.proofs.EntryLaws.{right-keeps, guest-below, guest-sound, settles-refused, settles-answered}
 use Rattle.host.proofs.event.Statement.{statement}
 use Rattle.host.proofs.event.Tie as tie
-use Rattle.host.proofs.event.Reads as reads
-use Rattle.host.proofs.event.Lts as lts
-use Rattle.calls.proofs.plant_event.Reads as plant-event-reads
-use Rattle.host.proofs.entry.entry_of.Reads as entry-of-reads
-use Rattle.host.proofs.entry.seat_of.Reads as seat-of-reads
-use Rattle.host.proofs.put.with_plant.Reads as with-plant-reads
-use Rattle.host.proofs.refused.Reads as refused-reads
 
--- src/lib.rt:37:9
 entry-of-requires : tie.Need-entry-of-requires
 entry-of-requires c κs = search needs
 
--- src/lib.rt:38:11
 seat-of-requires : tie.Need-seat-of-requires
 seat-of-requires c κs = right-keeps _ _ _ (c .entry-of .ensures)
 
--- src/lib.rt:39:23
 enum-known-r : tie.Need-enum-known-r
 enum-known-r c = search needs
 
--- src/lib.rt:39:29
 refused-requires : tie.Need-refused-requires
 refused-requires c κs = search needs
 
--- src/lib.rt:40:21
 enum-known-i : tie.Need-enum-known-i
 enum-known-i c = search needs
 
--- src/lib.rt:41:25
 mul-guest : tie.Need-mul-guest
 mul-guest c = omega (arith, guest-below _ _ _ (c .before .before .before .before .entry-of .ensures) _ _ (c .before .before .before .seat-of .ensures) _ (c .before .i .given .1))
 
--- src/lib.rt:41:25
 element-copy-out-guest : tie.Need-element-copy-out-guest
 element-copy-out-guest c = omega (arith, guest-below _ _ _ (c .before .before .before .before .entry-of .ensures) _ _ (c .before .before .before .seat-of .ensures) _ (c .before .i .given .1))
 
--- src/lib.rt:44:17
 plant-event-requires : tie.Need-plant-event-requires
 plant-event-requires c κs = guest-sound _ _ _ (c .before .before .before .before .before .before .before .before .entry-of .ensures) _ _ (c .before .before .before .before .before .before .before .seat-of .ensures) _ (c .before .before .before .before .before .i .given .1)
 
--- src/lib.rt:49:25
 with-plant-requires : tie.Need-with-plant-requires
 with-plant-requires c κs = guest-below _ _ _ (c .before .before .before .before .before .before .before .before .before .before .before .before .entry-of .ensures) _ _ (c .before .before .before .before .before .before .before .before .before .before .before .seat-of .ensures) _ (c .before .before .before .before .before .before .before .before .before .i .given .1)
 
--- src/lib.rt:34:1
 returns : tie.Need-returns
 returns c = let s = c .before .before .before .before in
     settles-refused _ _ _ (s .before .entry-of .ensures) _ _ (s .seat-of .ensures) _ _ (c .before .before .r .given .1) (c .refused .ensures)
 
--- src/lib.rt:34:1
 same-length : tie.Need-same-length
 same-length c = search needs
 
--- src/lib.rt:34:1
 returns-2 : tie.Need-returns-2
 returns-2 c = let p = c .before .before .before .before in
     let i = p .before .before .before .before .before .before in

@@ -1,28 +1,21 @@
-use native.Mathlib.Omega.{arith}
+-- `host::entry::seat_for` meets its contract: a case of the owner each.
 use borrow.Author.Needs.{needs}
 use Rattle.host.proofs.EntryLaws.{no-source, no-guest, guest-there}
 use Rattle.host.proofs.entry.seat_for.Statement.{statement}
 use Rattle.host.proofs.entry.seat_for.Tie as tie
-use Rattle.host.proofs.entry.seat_for.Reads as reads
-use Rattle.host.proofs.entry.seat_for.Lts as lts
 
--- src/entry.rt:38:40
 enum-told : tie.Need-enum-told
 enum-told c = search needs
 
--- src/entry.rt:39:22
 enum-known-owner : tie.Need-enum-known-owner
 enum-known-owner c = search needs
 
--- src/entry.rt:41:17
 returns : tie.Need-returns
 returns c = search no-guest
 
--- src/entry.rt:34:1
 returns-2 : tie.Need-returns-2
 returns-2 c = search no-source
 
--- src/entry.rt:34:1
 returns-3 : tie.Need-returns-3
 returns-3 c = search guest-there
 

@@ -1,3 +1,4 @@
+-- `session::feeder::feed` meets its contract: each turn of its loop is a byte of the definition.
 use native.Mathlib.Omega.{arith}
 use borrow.Author.Needs.{needs}
 use mathlib.Core.Path.{_≡_, refl, sym, _∙_}
@@ -6,18 +7,10 @@ use Prim.Native.Nat.{_-_}
 use lib.ListN.{length, take, length-map}
 use Rattle.host.specs.Seats.{entryOf}
 use Rattle.host.proofs.EntryLaws.{right-keeps}
-use Rattle.session.proofs.FeedLaws.{at as start, Room, Feeding, feeding-start, room-start, line-taken, reply-room, turn-push, turn-drop, turn-reply, turns-done, feeds-as}
+use Rattle.session.proofs.FeedLaws.{at as start, Room, Feeding, feeding-start, room-start, line-taken, turn-push, turn-drop, turn-reply, turns-done, feeds-as}
 use Rattle.session.proofs.Answers.{answers-bad, answers-loaded, answers-refused, answers-guest, guest-fine, memory-same, entry-same, asked-as}
 use Rattle.session.proofs.feeder.feed.Statement.{statement}
 use Rattle.session.proofs.feeder.feed.Tie as tie
-use Rattle.session.proofs.feeder.feed.Reads as reads
-use Rattle.session.proofs.feeder.feed.Lts as lts
-use Rattle.calls.proofs.plant_event.Reads as plant-event-reads
-use Rattle.host.proofs.entry_of.Reads as entry-of-reads
-use Rattle.session.proofs.ask.ask.Reads as ask-reads
-use Rattle.session.proofs.ask.load_line.Reads as load-line-reads
-use Rattle.session.proofs.feeder.least.Reads as least-reads
-use Rattle.session.proofs.reply.put_reply.Reads as put-reply-reads
 
 abbrev Inv-loop : tie.InvT-loop
 Inv-loop mem₀ piece out₀ tables₀ line₀ held₀ entry₀ n at₀ i₀ mem out tables line held entry at i =
@@ -28,19 +21,15 @@ Inv-loop mem₀ piece out₀ tables₀ line₀ held₀ entry₀ n at₀ i₀ mem
 abbrev μ-loop : tie.MeasureT-loop
 μ-loop mem₀ piece out₀ tables₀ line₀ held₀ entry₀ n at₀ i₀ mem out tables line held entry at i = n - i
 
--- src/feeder.rt:57:9
 least-requires : tie.Need-least-requires Inv-loop μ-loop
 least-requires c κs = search needs
 
--- src/feeder.rt:58:9
 entry-of-requires : tie.Need-entry-of-requires Inv-loop μ-loop
 entry-of-requires c κs = search needs
 
--- src/feeder.rt:59:9
 least-requires-2 : tie.Need-least-requires-2 Inv-loop μ-loop
 least-requires-2 c κs = search needs
 
--- src/feeder.rt:62:5
 loop-holds : tie.Need-loop-holds Inv-loop μ-loop
 loop-holds c = (
   room-start _ _ _ _ _ _ _ (c .least2 .ensures) (c .before .before .least .ensures) (simp length-map at (c .before .before .before .before .before .before .before .before .good .0 .1 .1 .1 .0 .1 .0 .1)),
@@ -48,132 +37,102 @@ loop-holds c = (
   feeding-start _ _ _ _ _ _,
 )
 
--- src/feeder.rt:63:17
 shared-slice-read-b : tie.Need-shared-slice-read-b Inv-loop μ-loop
 shared-slice-read-b c = omega arith
 
--- src/feeder.rt:64:9
 add-i : tie.Need-add-i Inv-loop μ-loop
 add-i c = omega arith
 
--- src/feeder.rt:67:17
 array-write-line : tie.Need-array-write-line Inv-loop μ-loop
 array-write-line c = omega arith
 
--- src/feeder.rt:68:17
 add-held : tie.Need-add-held Inv-loop μ-loop
 add-held c = omega arith
 
--- src/feeder.rt:62:5
 loop-less : tie.Need-loop-less Inv-loop μ-loop
 loop-less c = omega arith
 
--- src/feeder.rt:62:5
 loop-again : tie.Need-loop-again Inv-loop μ-loop
 loop-again c = let l = c .before .before .before .before .loop in
-    let w = turn-push _ _ _ _ _ _ _ _ _ _ _ _ (l .inv .0) (l .inv .2) (c .before .before .before .loop-test .taken) _ refl (c .before .if1 .taken) (c .if2 .taken) in
+    let w = turn-push _ _ _ _ _ _ _ _ _ _ _ _ (l .inv .0) (l .inv .2) (c .before .before .before .loop-test .taken) _ refl (c .before .if1 .taken) (omega arith) in
     (w .0, l .inv .1, w .1)
 
--- src/feeder.rt:62:5
 loop-less-2 : tie.Need-loop-less-2 Inv-loop μ-loop
 loop-less-2 c = omega arith
 
--- src/feeder.rt:62:5
 loop-again-2 : tie.Need-loop-again-2 Inv-loop μ-loop
 loop-again-2 c = let l = c .before .before .before .before .loop in
-    let w = turn-drop _ _ _ _ _ _ _ _ _ _ _ _ (l .inv .0) (l .inv .2) (c .before .before .before .loop-test .taken) _ refl (c .before .if1 .taken) (c .if2 .left) in
+    let w = turn-drop _ _ _ _ _ _ _ _ _ _ _ _ (l .inv .0) (l .inv .2) (c .before .before .before .loop-test .taken) _ refl (c .before .if1 .taken) (omega arith) in
     (w .0, l .inv .1, w .1)
 
--- src/feeder.rt:72:34
 array-share-prefix-line : tie.Need-array-share-prefix-line Inv-loop μ-loop
 array-share-prefix-line c = omega arith
 
--- src/feeder.rt:72:34
 slice-aggregate-ask : tie.Need-slice-aggregate-ask Inv-loop μ-loop
 slice-aggregate-ask c = let l = c .before .before .before .before .loop in line-taken _ _ _ _ _ _ _ _ _ _ _ _ (l .inv .0) (l .inv .2)
 
--- src/feeder.rt:72:15
 ask-requires : tie.Need-ask-requires Inv-loop μ-loop
 ask-requires c κs = right-keeps _ _ _ (c .before .before .before .before .loop .inv .1)
 
--- src/feeder.rt:73:42
 enum-told : tie.Need-enum-told Inv-loop μ-loop
 enum-told c = search needs
 
--- src/feeder.rt:73:27
 put-reply-requires : tie.Need-put-reply-requires Inv-loop μ-loop
 put-reply-requires c κs = search needs
 
--- src/feeder.rt:75:40
 enum-told-2 : tie.Need-enum-told-2 Inv-loop μ-loop
 enum-told-2 c = search needs
 
--- src/feeder.rt:75:40
 array-share-prefix-line-2 : tie.Need-array-share-prefix-line-2 Inv-loop μ-loop
 array-share-prefix-line-2 c = omega arith
 
--- src/feeder.rt:75:40
 slice-aggregate-load-line : tie.Need-slice-aggregate-load-line Inv-loop μ-loop
 slice-aggregate-load-line c = let l = c .before .before .before .before .before .before .before .before .loop in line-taken _ _ _ _ _ _ _ _ _ _ _ _ (l .inv .0) (l .inv .2)
 
--- src/feeder.rt:75:21
 load-line-requires : tie.Need-load-line-requires Inv-loop μ-loop
 load-line-requires c κs = search needs
 
--- src/feeder.rt:78:17
 entry-of-requires-2 : tie.Need-entry-of-requires-2 Inv-loop μ-loop
 entry-of-requires-2 c κs = search needs
 
--- src/feeder.rt:80:17
 put-reply-requires-2 : tie.Need-put-reply-requires-2 Inv-loop μ-loop
 put-reply-requires-2 c κs = search needs
 
--- src/feeder.rt:82:28
 enum-known-r : tie.Need-enum-known-r Inv-loop μ-loop
 enum-known-r c = search needs
 
--- src/feeder.rt:82:34
 put-reply-requires-3 : tie.Need-put-reply-requires-3 Inv-loop μ-loop
 put-reply-requires-3 c κs = search needs
 
--- src/feeder.rt:83:26
 enum-known-g : tie.Need-enum-known-g Inv-loop μ-loop
 enum-known-g c = search needs
 
--- src/feeder.rt:84:33
 mul-guest : tie.Need-mul-guest Inv-loop μ-loop
 mul-guest c = let l = c .before .before .before .before .before .before .before .before .loop in
     omega (arith, guest-fine _ (l .mem) (take (l .held) (l .line)) _ _ (asked-as _ (l .mem) (take (l .held) (l .line)) _ (l .inv .1) _ (c .before .before .before .ask .ensures) _ (c .before .g .given .1)) .0)
 
--- src/feeder.rt:84:33
 element-copy-out-guest : tie.Need-element-copy-out-guest Inv-loop μ-loop
 element-copy-out-guest c = let l = c .before .before .before .before .before .before .before .before .loop in
     omega (arith, guest-fine _ (l .mem) (take (l .held) (l .line)) _ _ (asked-as _ (l .mem) (take (l .held) (l .line)) _ (l .inv .1) _ (c .before .before .before .ask .ensures) _ (c .before .g .given .1)) .0)
 
--- src/feeder.rt:87:21
 plant-event-requires : tie.Need-plant-event-requires Inv-loop μ-loop
 plant-event-requires c κs = let l = c .before .before .before .before .before .before .before .before .before .before .before .before .loop in
     guest-fine _ (l .mem) (take (l .held) (l .line)) _ _ (asked-as _ (l .mem) (take (l .held) (l .line)) _ (l .inv .1) _ (c .before .before .before .before .before .before .before .ask .ensures) _ (c .before .before .before .before .before .g .given .1)) .1
 
--- src/feeder.rt:91:17
 mul-guest-2 : tie.Need-mul-guest-2 Inv-loop μ-loop
 mul-guest-2 c = let l = c .before .before .before .before .before .before .before .before .before .before .before .before .before .before .before .before .loop in
     omega (arith, guest-fine _ (l .mem) (take (l .held) (l .line)) _ _ (asked-as _ (l .mem) (take (l .held) (l .line)) _ (l .inv .1) _ (c .before .before .before .before .before .before .before .before .before .before .before .ask .ensures) _ (c .before .before .before .before .before .before .before .before .before .g .given .1)) .0)
 
--- src/feeder.rt:91:17
 element-set-from-guest : tie.Need-element-set-from-guest Inv-loop μ-loop
 element-set-from-guest c = let l = c .before .before .before .before .before .before .before .before .before .before .before .before .before .before .before .before .loop in
     omega (arith, guest-fine _ (l .mem) (take (l .held) (l .line)) _ _ (asked-as _ (l .mem) (take (l .held) (l .line)) _ (l .inv .1) _ (c .before .before .before .before .before .before .before .before .before .before .before .ask .ensures) _ (c .before .before .before .before .before .before .before .before .before .g .given .1)) .0)
 
--- src/feeder.rt:92:17
 put-reply-requires-4 : tie.Need-put-reply-requires-4 Inv-loop μ-loop
 put-reply-requires-4 c κs = search needs
 
--- src/feeder.rt:62:5
 loop-less-3 : tie.Need-loop-less-3 Inv-loop μ-loop
 loop-less-3 c = omega arith
 
--- src/feeder.rt:62:5
 loop-again-3 : tie.Need-loop-again-3 Inv-loop μ-loop
 loop-again-3 c = let l = c .before .before .before .before .before .before .before .before .before .before .before .loop in
     let w = turn-reply _ _ _ _ _ _ _ _ _ _ _ _ (l .inv .0) (l .inv .2) (c .before .before .before .before .before .before .before .before .before .before .loop-test .taken) _ refl (c .before .before .before .before .before .before .before .before .if1 .left) _ _ _ refl
@@ -181,11 +140,9 @@ loop-again-3 c = let l = c .before .before .before .before .before .before .befo
     _ _ (c .before .before .put-reply .ensures) in
     (w .0, l .inv .1, w .1)
 
--- src/feeder.rt:62:5
 loop-less-4 : tie.Need-loop-less-4 Inv-loop μ-loop
 loop-less-4 c = omega arith
 
--- src/feeder.rt:62:5
 loop-again-4 : tie.Need-loop-again-4 Inv-loop μ-loop
 loop-again-4 c = let l = c .before .before .before .before .before .before .before .before .before .before .before .before .before .before .before .loop in
     let w = turn-reply _ _ _ _ _ _ _ _ _ _ _ _ (l .inv .0) (l .inv .2) (c .before .before .before .before .before .before .before .before .before .before .before .before .before .before .loop-test .taken) _ refl (c .before .before .before .before .before .before .before .before .before .before .before .before .if1 .left) _ _ _ refl
@@ -193,11 +150,9 @@ loop-again-4 c = let l = c .before .before .before .before .before .before .befo
     _ _ (c .before .before .put-reply2 .ensures) in
     (w .0, c .before .before .before .before .entry-of2 .ensures, w .1)
 
--- src/feeder.rt:62:5
 loop-less-5 : tie.Need-loop-less-5 Inv-loop μ-loop
 loop-less-5 c = omega arith
 
--- src/feeder.rt:62:5
 loop-again-5 : tie.Need-loop-again-5 Inv-loop μ-loop
 loop-again-5 c = let l = c .before .before .before .before .before .before .before .before .before .before .before .before .loop in
     let w = turn-reply _ _ _ _ _ _ _ _ _ _ _ _ (l .inv .0) (l .inv .2) (c .before .before .before .before .before .before .before .before .before .before .before .loop-test .taken) _ refl (c .before .before .before .before .before .before .before .before .before .if1 .left) _ _ _ refl
@@ -205,11 +160,9 @@ loop-again-5 c = let l = c .before .before .before .before .before .before .befo
     _ _ (c .before .before .put-reply3 .ensures) in
     (w .0, l .inv .1, w .1)
 
--- src/feeder.rt:62:5
 loop-less-6 : tie.Need-loop-less-6 Inv-loop μ-loop
 loop-less-6 c = omega arith
 
--- src/feeder.rt:62:5
 loop-again-6 : tie.Need-loop-again-6 Inv-loop μ-loop
 loop-again-6 c = let l = c .before .before .before .before .before .before .before .before .before .before .before .before .before .before .before .before .before .before .before .before .loop in
     let s = asked-as _ (l .mem) (take (l .held) (l .line)) _ (l .inv .1) _ (c .before .before .before .before .before .before .before .before .before .before .before .before .before .before .before .ask .ensures) _ (c .before .before .before .before .before .before .before .before .before .before .before .before .before .g .given .1) in
@@ -220,15 +173,12 @@ loop-again-6 c = let l = c .before .before .before .before .before .before .befo
     _ _ (c .before .before .put-reply4 .ensures) in
     (w .0, l .inv .1 ∙ sym (entry-same _ (l .mem) (take (l .held) (l .line)) _ _ s (d .result) _ (d .ensures)), w .1)
 
--- src/feeder.rt:52:1
 same-length : tie.Need-same-length Inv-loop μ-loop
 same-length c = search needs
 
--- src/feeder.rt:52:1
 same-length-2 : tie.Need-same-length-2 Inv-loop μ-loop
 same-length-2 c = search needs
 
--- src/feeder.rt:52:1
 returns : tie.Need-returns Inv-loop μ-loop
 returns c = let l = c .before .loop in
     let s = c .before .before in

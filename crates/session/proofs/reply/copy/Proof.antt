@@ -1,3 +1,4 @@
+-- `session::reply::copy` meets its contract, byte by byte.
 use native.Mathlib.Omega.{arith}
 use borrow.Author.Needs.{needs}
 use mathlib.Core.Path.{_≡_, refl}
@@ -7,8 +8,6 @@ use lib.Seq.{sets}
 use Rattle.session.proofs.ReplyLaws.{copied, copied-all}
 use Rattle.session.proofs.reply.copy.Statement.{statement}
 use Rattle.session.proofs.reply.copy.Tie as tie
-use Rattle.session.proofs.reply.copy.Reads as reads
-use Rattle.session.proofs.reply.copy.Lts as lts
 
 abbrev Inv-loop : tie.InvT-loop
 Inv-loop text out₀ at i₀ out i = (i ≤ length text) × (out ≡ sets out₀ at (take i text)) × (length out ≡ length out₀)
@@ -16,39 +15,30 @@ Inv-loop text out₀ at i₀ out i = (i ≤ length text) × (out ≡ sets out₀
 abbrev μ-loop : tie.MeasureT-loop
 μ-loop text out₀ at i₀ out i = length text - i
 
--- src/reply.rt:35:5
 loop-holds : tie.Need-loop-holds Inv-loop μ-loop
 loop-holds c = (omega arith, refl, refl)
 
--- src/reply.rt:36:23
 shared-slice-read-out : tie.Need-shared-slice-read-out Inv-loop μ-loop
 shared-slice-read-out c = omega arith
 
--- src/reply.rt:36:13
 add-out : tie.Need-add-out Inv-loop μ-loop
 add-out c = omega arith
 
--- src/reply.rt:36:9
 slice-write-out : tie.Need-slice-write-out Inv-loop μ-loop
 slice-write-out c = omega (arith, c .before .before .loop .inv .2)
 
--- src/reply.rt:37:9
 add-i : tie.Need-add-i Inv-loop μ-loop
 add-i c = omega arith
 
--- src/reply.rt:35:5
 loop-less : tie.Need-loop-less Inv-loop μ-loop
 loop-less c = omega arith
 
--- src/reply.rt:35:5
 loop-again : tie.Need-loop-again Inv-loop μ-loop
 loop-again c = (omega arith, copied _ _ _ _ _ (c .before .before .loop .inv .1) (omega arith), search needs)
 
--- src/reply.rt:30:1
 same-length : tie.Need-same-length Inv-loop μ-loop
 same-length c = search needs
 
--- src/reply.rt:30:1
 returns : tie.Need-returns Inv-loop μ-loop
 returns c = search copied-all
 

@@ -1,50 +1,36 @@
-use native.Mathlib.Omega.{arith}
+-- `session::reply::put_text` meets its contract: a case of the reply each.
 use borrow.Author.Needs.{needs}
 use Rattle.session.specs.Replies.{replyText}
 use Rattle.session.proofs.ReplyLaws.{reply-as}
 use Rattle.session.proofs.reply.put_text.Statement.{statement}
 use Rattle.session.proofs.reply.put_text.Tie as tie
-use Rattle.session.proofs.reply.put_text.Reads as reads
-use Rattle.session.proofs.reply.put_text.Lts as lts
-use Rattle.text.proofs.put_answer.Reads as put-answer-reads
-use Rattle.text.proofs.put_bad.Reads as put-bad-reads
-use Rattle.text.proofs.put_status.Reads as put-status-reads
 
--- src/reply.rt:24:37
 enum-told : tie.Need-enum-told
 enum-told c = search needs
 
--- src/reply.rt:24:23
 put-bad-requires : tie.Need-put-bad-requires
 put-bad-requires c κs = search needs
 
--- src/reply.rt:25:22
 enum-known-reply : tie.Need-enum-known-reply
 enum-known-reply c = search needs
 
--- src/reply.rt:25:33
 put-status-requires : tie.Need-put-status-requires
 put-status-requires c κs = search needs
 
--- src/reply.rt:26:22
 enum-known-reply-2 : tie.Need-enum-known-reply-2
 enum-known-reply-2 c = search needs
 
--- src/reply.rt:26:33
 put-answer-requires : tie.Need-put-answer-requires
 put-answer-requires c κs = search needs
 
--- src/reply.rt:20:1
 returns : tie.Need-returns
 unfolding replyText
 returns c = reply-as _ _ _ _ _ (c .before .before .enum-told .given .1) (c .put-bad .ensures)
 
--- src/reply.rt:20:1
 returns-2 : tie.Need-returns-2
 unfolding replyText
 returns-2 c = reply-as _ _ _ _ _ (c .before .before .before .reply .given .1) (c .put-status .ensures)
 
--- src/reply.rt:20:1
 returns-3 : tie.Need-returns-3
 unfolding replyText
 returns-3 c = reply-as _ _ _ _ _ (c .before .before .before .reply2 .given .1) (c .put-answer .ensures)
