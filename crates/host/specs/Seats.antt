@@ -1,5 +1,4 @@
 -- "Before anything", in the code's two steps: the entry, which looks at tables and memory alone, and the guest that answers.
-use mathlib.Core.Bool.{Bool, true, false}
 use Prim.Native.Nat.{ℕ}
 use lib.Dec.{ltb}
 use Rattle.rules.specs.declared.Event.{Event}

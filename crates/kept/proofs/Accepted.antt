@@ -19,7 +19,7 @@ use Rattle.rules.specs.Scan.{allBelow}
 use Rattle.rules.specs.Kept.{blankExtent, blankCpu, blankSource, blankGuest, hollowCpu, hollowGuest, noVersions, noGuests, guestAt, extentAt, cpuAt, sourceAt}
 use Rattle.rules.specs.Bits.{fieldAt, reaches}
 use Rattle.rules.specs.Real.{valid}
-use Rattle.rules.specs.Rulings.{Ruling, refused, granted, _or-refuse_then_, _grants_, if_then_else_}
+use Rattle.rules.specs.Rulings.{Ruling, refused, granted, _or-refuse_then_, if_then_else_}
 use Rattle.rules.specs.Image.{extentBits, sourceBits, countAt, filled, readExtent, readSource, readLists, readGuest, Partition, readGuests, behind, extentsRight, extentRight, ascend, pagesShared, sourceTwice, filledOut, judged, readImage, loadedAs, load}
 use Rattle.rules.specs.Tables.{listRight, cpuBlank, cpuRight, sourceBlank, sourceRight, cookieRight, enabledRight, versionsRight, extentBlank, extentsKeep, plantKeeps, guestKeeps, guestBlank, keepRules}
 use Rattle.rules.proofs.Computing.{computing}

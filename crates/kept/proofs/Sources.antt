@@ -16,7 +16,7 @@ use Rattle.rules.specs.declared.Source.{Source}
 use Rattle.rules.specs.declared.Target.{Target}
 use Rattle.rules.specs.Limits.{devhandles, devinos}
 use Rattle.rules.specs.Kept.{cpuAt, queueAt, sourceAt, withSource, withQueue, withTail, withEnabled, withState, withTarget, withCookie}
-use Rattle.rules.specs.Rulings.{Ruling, refused, granted, Outcome, says, done, _or-refuse_then_, _grants_, if_then_else_}
+use Rattle.rules.specs.Rulings.{Ruling, refused, granted, Outcome, says, done, _or-refuse_then_, if_then_else_}
 use Rattle.rules.specs.Queues.{hasRoom, nextTail}
 use Rattle.rules.specs.Sources.{sysinoOf, found, get-enabled, set-enabled, get-state, set-state, get-target, set-target, get-cookie, set-cookie, intr-devino2sysino, intr, vintr, devMondo, received, deliverTo, deliver, raiseAt, raise}
 use Rattle.rules.specs.Tables.{targetRight, cookieRight, enabledRight, sourceRight, plantKeeps}

@@ -1,35 +1,30 @@
 -- One event, seen by one plant: what the host does for it is what the machine that has this plant alone does; what the host does
 -- for another is nothing to it.
-use mathlib.Core.Path.{_≡_, refl, sym, ap, _∙_, fun-ext}
+use mathlib.Core.Path.{_≡_, refl, sym, ap, _∙_}
 use mathlib.Core.Bool.{Bool, true, false, false≢true}
 use mathlib.Core.List.{List, [], _∷_}
-use Prim.Native.Nat.{ℕ, zero, suc, _*_, _/_, _%_, _≤_, _<_}
+use Prim.Native.Nat.{ℕ, zero, suc, _≤_, _<_}
 use native.Mathlib.Omega.{arith}
 use lib.Dec.{ltb}
 use lib.ListN.{length, getD}
 use lib.Seq.{getD-set-same}
 use borrow.Author.Tests.{ltb-true, lt-ltb}
 use Rattle.rules.specs.declared.Event.{Event}
-use Rattle.rules.specs.declared.Extents.{Extents}
 use Rattle.rules.specs.declared.Guest.{Guest}
 use Rattle.rules.specs.declared.Owner.{Owner}
 use Rattle.rules.specs.declared.Plant.{Plant}
 use Rattle.rules.specs.declared.Tables.{Tables}
 use Rattle.rules.specs.Limits.{guestLimit, extentLimit}
-use Rattle.rules.specs.Scan.{allBelow, firstBelow}
-use Rattle.rules.specs.Kept.{guestAt, plantAt, extentAt, sourceAt, extentsOf, hollowGuest, withPlant}
-use Rattle.rules.specs.Real.{Sight, sightOf, valid, apply}
+use Rattle.rules.specs.Kept.{guestAt, plantAt, extentsOf, hollowGuest, withPlant}
+use Rattle.rules.specs.Real.{Sight, sightOf, apply}
 use Rattle.rules.specs.Rulings.{Outcome, outcomeOf}
-use Rattle.rules.specs.Image.{runAt}
-use Rattle.rules.specs.Sources.{sysinoOf}
 use Rattle.rules.specs.Tables.{extentsKeep, keepRules}
-use Rattle.rules.specs.Host.{HostOutcome, plantRule, isFound, ownerFound, ownerOf, longEnough, hostEvent}
+use Rattle.rules.specs.Host.{HostOutcome, plantRule, ownerOf, longEnough, hostEvent}
 use Rattle.memory.specs.Ready.{present}
 use Rattle.memory.proofs.Checked.{guest-ready, guest-distinct, guests-strangers}
 use Rattle.memory.proofs.Isolation.{sight-unmoved}
 use Rattle.memory.proofs.Sights.{after, own-sight}
-use Rattle.memory.proofs.Writes.{apply-length}
-use Rattle.tables.proofs.SoundTables.{guests-few, pages-apart, extents-keep, extents-ascend, plant-keeps}
+use Rattle.tables.proofs.SoundTables.{guests-few, pages-apart, extents-keep, extents-ascend}
 use Rattle.kept.proofs.Settled.{settled, event-settled, few}
 use Rattle.promises.proofs.Isolation.{isolation}
 

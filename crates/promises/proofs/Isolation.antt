@@ -13,12 +13,12 @@ use Rattle.rules.specs.declared.Owner.{Owner}
 use Rattle.rules.specs.declared.Refusal.{Refusal}
 use Rattle.rules.specs.declared.Refusal.the-variants.{BadTables, ShortMemory}
 use Rattle.rules.specs.declared.Tables.{Tables}
-use Rattle.rules.specs.Limits.{guestLimit, extentLimit}
+use Rattle.rules.specs.Limits.{guestLimit}
 use Rattle.rules.specs.Kept.{guestAt, plantAt, extentsOf, hollowGuest}
 use Rattle.rules.specs.Real.{sightOf}
 use Rattle.rules.specs.Rulings.{refused, outcomeOf}
 use Rattle.rules.specs.Tables.{keepRules}
-use Rattle.rules.specs.Host.{HostOutcome, plantRule, ownerOf, longEnough, answeredBy, hostRule, hostOutcomeOf, hostEvent}
+use Rattle.rules.specs.Host.{HostOutcome, plantRule, ownerOf, longEnough, hostRule, hostEvent}
 use Rattle.memory.specs.Cells.{cell}
 use Rattle.memory.proofs.Isolation.{owns, apply-other}
 use Rattle.memory.proofs.Checked.{guests-strangers}

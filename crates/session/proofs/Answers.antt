@@ -1,6 +1,6 @@
 -- What each thing that a line can ask for comes to.
 use mathlib.Core.Path.{_≡_, refl, sym, ap, _∙_}
-use mathlib.Core.Bool.{Bool, true, false}
+use mathlib.Core.Bool.{true}
 use mathlib.Core.List.{List, [], _∷_, _++_}
 use Prim.Native.Nat.{ℕ, _<_}
 use native.Mathlib.Omega.{arith}
@@ -18,9 +18,8 @@ use Rattle.rules.specs.Image.{load}
 use Rattle.rules.specs.Host.{HostOutcome, plantRule, longEnough, hostEvent}
 use Rattle.rules.specs.Tables.{keepRules}
 use Rattle.rules.specs.Text.{Line, bad, image, event, parse, lineFeed, badWord, spaced}
-use Rattle.rules.specs.Session.{Session, Printed, afterImage, afterEvent, answered}
+use Rattle.rules.specs.Session.{Session, afterEvent, answered}
 use Rattle.records.specs.declared.Verdict.{Verdict}
-use Rattle.records.specs.Verdict.{isRight}
 use Rattle.records.specs.Sound.{Sound}
 use Rattle.calls.specs.declared.Done.{Done}
 use Rattle.calls.specs.Follows.{Follows}
@@ -30,7 +29,7 @@ use Rattle.host.proofs.EntryLaws.{entry-tells, seat-told, seat-sound, seat-refu
 use Rattle.kept.proofs.Tables.{event-keeps}
 use Rattle.kept.proofs.Steady.{long-same, event-steady}
 use Rattle.text.specs.Lines.{imageOf}
-use Rattle.text.specs.Printed.{badText, statusText, answerText}
+use Rattle.text.specs.Printed.{statusText, answerText}
 use Rattle.session.specs.declared.ask.Asked.{Asked}
 use Rattle.session.specs.declared.reply.Reply.{Reply}
 use Rattle.session.specs.Asking.{asked, askedOf}

@@ -1,22 +1,19 @@
 -- The loop of `feed`: what its state comes to, byte by byte.
 use mathlib.Core.Path.{_≡_, refl, sym, ap, _∙_}
-use mathlib.Core.Bool.{Bool, true, false}
-use mathlib.Core.List.{List, [], _∷_, _++_, append-nil}
-use Prim.Native.Nat.{ℕ, zero, suc, _+_, _*_, _/_, _<_, _≤_, min}
+use mathlib.Core.List.{List, [], _∷_, _++_}
+use Prim.Native.Nat.{ℕ, zero, suc, _+_, _*_, _<_, _≤_, min}
 use native.Mathlib.Nat.{zero-add}
 use native.Mathlib.Numerals.{add-one}
 use native.Mathlib.Omega.{arith}
-use lib.Dec.{eqb, ltb}
 use lib.ListN.{length, getD, replicate, set, take, drop, length-append, length-set, drop-of-length-le}
 use lib.Seq.{sets, drop-cons, length-take-le, length-sets, getD-take}
 use borrow.Author.Tests.{eq-eqb, ne-eqb, lt-ltb, le-ltb}
-use Rattle.rules.specs.declared.Event.{Event}
 use Rattle.rules.specs.declared.Loaded.{Loaded}
 use Rattle.rules.specs.declared.Tables.{Tables}
 use Rattle.rules.specs.Image.{load}
 use Rattle.rules.proofs.Computing.{computing}
 use Rattle.rules.specs.Text.{parse, lineFeed}
-use Rattle.rules.specs.Session.{Session, Printed, answered}
+use Rattle.rules.specs.Session.{answered}
 use Rattle.text.proofs.Stores.{sets-append}
 use Rattle.session.specs.declared.feeder.Fed.{Fed}
 use Rattle.session.specs.declared.feeder.Feeder.{Feeder}

@@ -2,15 +2,15 @@
 use mathlib.Core.Path.{_≡_, refl, sym, ap, _∙_}
 use mathlib.Core.Bool.{Bool, true, false}
 use mathlib.Core.List.{List, [], _∷_, _++_, append-assoc, append-nil}
-use Prim.Native.Nat.{ℕ, zero, suc, _+_, _*_, _/_, _<_, _≤_, min}
+use Prim.Native.Nat.{ℕ, zero, suc, _+_, _*_, _<_, _≤_, min}
 use native.Mathlib.Omega.{arith}
 use lib.Dec.{eqb, ltb, leb}
-use lib.ListN.{length, replicate, set, take, length-append, length-set, length-replicate}
+use lib.ListN.{length, replicate, take, length-append, length-set, length-replicate}
 use lib.Seq.{take-all, take-suc-set, take-append-le, length-take-le}
 use borrow.Author.Tests.{leb-true, leb-false, ltb-true, ltb-false, lt-leb}
 use Rattle.rules.specs.Rulings.{if_then_else_}
-use Rattle.rules.specs.Text.{Line, parse, lineFeed}
-use Rattle.rules.specs.Session.{Session, Printed, begin, answered, linesFrom, printed, output}
+use Rattle.rules.specs.Text.{parse, lineFeed}
+use Rattle.rules.specs.Session.{Printed, begin, answered, linesFrom, printed, output}
 use Rattle.session.specs.declared.feeder.Feeder.{Feeder}
 use Rattle.session.specs.Feeding.{Progress, ended, pushed, next, fed, room, taken-up, feedOf, atFirst, ending, lineLimit}
 

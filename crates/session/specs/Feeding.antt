@@ -1,6 +1,5 @@
 -- Input in pieces: what a piece gives, and what is kept for the next one.
 use mathlib.Core.Path.{_≡_}
-use mathlib.Core.Bool.{Bool, true, false}
 use mathlib.Core.List.{List, [], _∷_, _++_}
 use Prim.Native.Nat.{ℕ, zero, suc, _/_, min}
 use lib.Dec.{eqb, ltb}

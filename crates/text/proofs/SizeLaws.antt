@@ -10,7 +10,7 @@ use lib.ListN.{length, take, drop}
 use borrow.Author.Tests.{leb-true}
 use Rattle.rules.specs.Rulings.{if_then_else_}
 use Rattle.rules.specs.declared.Event.{Event}
-use Rattle.rules.specs.Text.{Line, bad, image, event, space, imageWord, callWord, headWord, raiseWord, loadWord, storeWord, same, callOf, headOf, deviceOf, loadOf, storeOf, digitOf, consed, digits, byteOf, paired, pairedOr, fields, imageOr, eventOr, eventLine, lineOf, pieces, parse}
+use Rattle.rules.specs.Text.{bad, event, space, imageWord, callWord, headWord, raiseWord, loadWord, storeWord, same, callOf, headOf, deviceOf, loadOf, storeOf, digitOf, consed, digits, byteOf, paired, pairedOr, fields, imageOr, eventOr, eventLine, lineOf, pieces, parse}
 use Rattle.text.specs.Pieces.{firstLength, behind, unspaced}
 use Rattle.text.specs.Lines.{imageOf}
 use Rattle.text.proofs.PieceLaws.{pieces-split, joined-behind}
