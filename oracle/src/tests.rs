@@ -1,5 +1,6 @@
 //! Tests on the session's text.
 
+mod beyond;
 mod coverage;
 mod examples;
 mod readings;
