@@ -2,6 +2,7 @@
 
 mod beyond;
 mod coverage;
+mod draft;
 mod examples;
 mod readings;
 mod rules;
