@@ -59,7 +59,7 @@ pub fn answer_line(host: &mut Host, line: &[u8], answer: &mut Vec<u8>) {
 }
 
 /// Refusals return 0 in all four values.
-fn write_outcome(outcome: Outcome, answer: &mut Vec<u8>) {
+pub fn write_outcome(outcome: Outcome, answer: &mut Vec<u8>) {
     let (status, values) = match outcome {
         Ok(values) => (Status::EOK, values),
         Err(status) => (status, [0; 4]),

@@ -1,6 +1,8 @@
 //! Tests on the session's text.
 
+mod beyond;
 mod coverage;
+mod draft;
 mod examples;
 mod readings;
 mod rules;
