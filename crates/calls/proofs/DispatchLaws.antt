@@ -24,9 +24,9 @@ use Rattle.records.specs.declared.Verdict.{Verdict}
 use Rattle.records.specs.declared.Verdict.the-variants.{Right, Refused as Told}
 use Rattle.records.specs.Verdict.{verdictOf}
 use Rattle.records.proofs.Told.{told-refused, told-then}
-use Rattle.calls.specs.declared.Done.{Done}
-use Rattle.calls.specs.Done.{quietly, saying}
-use Rattle.calls.specs.Follows.{Follows}
+use Rattle.plants.specs.declared.Done.{Done}
+use Rattle.plants.specs.Done.{quietly, saying}
+use Rattle.plants.specs.Follows.{Follows}
 use Rattle.calls.specs.Dispatch.{sysinoRule}
 
 -- a call that writes nothing leaves the memory as it was

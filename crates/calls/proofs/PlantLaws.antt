@@ -23,10 +23,10 @@ use Rattle.rules.specs.Queues.{write-head}
 use Rattle.rules.specs.Sources.{sysinoOf, raise, raiseAt}
 use Rattle.rules.specs.Host.{plantRule}
 use Rattle.records.specs.Sound.{RecordSound, Sound}
-use Rattle.calls.specs.declared.Done.{Done}
-use Rattle.calls.specs.Done.{quietly, saying}
-use Rattle.calls.specs.Follows.{Follows}
-use Rattle.calls.specs.Rings.{PlacesSound}
+use Rattle.plants.specs.declared.Done.{Done}
+use Rattle.plants.specs.Done.{quietly, saying}
+use Rattle.plants.specs.Follows.{Follows}
+use Rattle.queues.specs.Rings.{PlacesSound}
 use Rattle.calls.proofs.DispatchLaws.{quiet}
 
 -- a ring that is sound holds its head and its tail

@@ -1,10 +1,2 @@
 pub mod Dispatch
-pub mod Done
-pub mod Follows
-pub mod Judged
-pub mod Lists
 pub mod Open
-pub mod Put
-pub mod Raised
-pub mod Rings
-pub mod Steps

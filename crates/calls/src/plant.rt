@@ -1,12 +1,9 @@
 // What a plant does with an event of its own, as if it were alone.
-use crate::Done;
 use crate::dispatch::call;
-use crate::queues::write_head;
-use crate::raise::raise_at;
-use crate::sources::sysino_of;
-use crate::told;
-use crate::words::load_word;
-use crate::words::store_word;
+use plants::Done;
+use plants::told;
+use queues::write_head;
+use raise::raise_at;
 use rules::Answer;
 use rules::Call;
 use rules::Device;
@@ -16,6 +13,9 @@ use rules::Found;
 use rules::HeadWrite;
 use rules::Plant;
 use rules::Refusal;
+use sources::sysino_of;
+use words::load_word;
+use words::store_word;
 ghost use mathlib.Core.Path.{_≡_};
 ghost use lib.ListN.{length};
 ghost use Rattle.rules.specs.Real.{sightOf};
@@ -23,7 +23,7 @@ ghost use Rattle.rules.specs.Rulings.{outcomeOf};
 ghost use Rattle.rules.specs.Host.{plantRule};
 ghost use Rattle.memory.specs.Ready.{present};
 ghost use Rattle.records.specs.Sound.{Sound};
-ghost use Rattle.calls.specs.Follows.{Follows};
+ghost use Rattle.plants.specs.Follows.{Follows};
 
 fn plant_call(extents: Extents, plant: Plant, mem: &mut [u8], c: Call) -> Done
     requires { ⌜ Sound extents plant (length (now mem)) ⌝ }

@@ -24,8 +24,8 @@ use Rattle.records.proofs.SoundLaws.{plant-sources}
 use Rattle.records.specs.declared.Verdict.{Verdict}
 use Rattle.records.specs.Verdict.{isRight}
 use Rattle.records.specs.Sound.{Sound}
-use Rattle.calls.specs.declared.Done.{Done}
-use Rattle.calls.specs.Follows.{Follows}
+use Rattle.plants.specs.declared.Done.{Done}
+use Rattle.plants.specs.Follows.{Follows}
 use Rattle.host.specs.declared.Settled.{Settled}
 use Rattle.host.specs.declared.entry.Seat.{Seat}
 use Rattle.host.specs.Owners.{Counted}

@@ -17,7 +17,7 @@ fn has_source(plant: Plant, d: Device) -> bool
     requires { ⌜ plant .sources ≤ sourceLimit ⌝ }
     ensures { λ r. ⌜ r ≡ hasSource plant d ⌝ }
 {
-    match calls::sysino_of(plant, d.devhandle, d.devino) {
+    match sources::sysino_of(plant, d.devhandle, d.devino) {
         Found::Nothing => false,
         Found::At(_) => true,
     }

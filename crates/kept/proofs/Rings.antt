@@ -16,7 +16,7 @@ use Rattle.records.specs.Verdict.{verdictOf}
 use Rattle.records.specs.declared.Verdict.the-variants.{Right}
 use Rattle.records.proofs.Told.{ring-told, entries-least}
 use Rattle.records.proofs.SoundLaws.{ring-sound}
-use Rattle.calls.proofs.SoundAfter.{tail-moved}
+use Rattle.plants.proofs.SoundAfter.{tail-moved}
 
 pub place-right : (size at : ℕ) → at % 64 ≡ 0 → at < size → placeRight size at ≡ true
 unfolding placeRight

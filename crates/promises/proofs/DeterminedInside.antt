@@ -32,7 +32,7 @@ use Rattle.records.proofs.judge_statistics.Reads as judge-statistics-reads
 use Rattle.records.proofs.is_page_index.Reads as is-page-index-reads
 use Rattle.records.proofs.inside_mask.Reads as inside-mask-reads
 use Rattle.records.proofs.judge_tsb.Reads as judge-tsb-reads
-use Rattle.calls.proofs.sysino_of.Reads as sysino-of-reads
+use Rattle.sources.proofs.sysino_of.Reads as sysino-of-reads
 use Rattle.calls.proofs.plant_event.Reads as plant-event-reads
 use Rattle.memory.proofs.write.Reads as write-reads
 use Rattle.memory.proofs.zero.Reads as zero-reads
@@ -136,7 +136,7 @@ inside-mask-determined κs a r s ws vs p q = p ∙ sym q
 pub judge-tsb-determined : (κs : _) (a : _) (r s : _) (ws vs : _) → judge-tsb-reads.Post κs a r ws → judge-tsb-reads.Post κs a s vs → r ≡ s
 judge-tsb-determined κs a r s ws vs p q = p ∙ sym q
 
--- calls: a source's position
+-- sources: a source's position
 pub sysino-of-determined : (κs : _) (a : _) (r s : _) (ws vs : _) → sysino-of-reads.Post κs a r ws → sysino-of-reads.Post κs a s vs → r ≡ s
 sysino-of-determined κs a r s ws vs p q = p ∙ sym q
 

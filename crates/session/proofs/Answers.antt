@@ -21,8 +21,8 @@ use Rattle.rules.specs.Text.{Line, bad, image, event, parse, lineFeed, badWord,
 use Rattle.rules.specs.Session.{Session, afterEvent, answered}
 use Rattle.records.specs.declared.Verdict.{Verdict}
 use Rattle.records.specs.Sound.{Sound}
-use Rattle.calls.specs.declared.Done.{Done}
-use Rattle.calls.specs.Follows.{Follows}
+use Rattle.plants.specs.declared.Done.{Done}
+use Rattle.plants.specs.Follows.{Follows}
 use Rattle.host.specs.declared.entry.Seat.{Seat}
 use Rattle.host.specs.Seats.{entryOf, seatOf}
 use Rattle.host.proofs.EntryLaws.{entry-tells, seat-told, seat-sound, seat-refuses, seat-follows}

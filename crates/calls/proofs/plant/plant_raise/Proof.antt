@@ -1,7 +1,7 @@
 -- `calls::plant::plant_raise` meets its contract.
 use borrow.Author.Needs.{needs}
 use Rattle.calls.proofs.PlantLaws.{raise-nothing, raise-there}
-use Rattle.calls.proofs.SourceLaws.{found-there}
+use Rattle.sources.proofs.SourceLaws.{found-there}
 use Rattle.calls.proofs.plant.plant_raise.Statement.{statement}
 use Rattle.calls.proofs.plant.plant_raise.Tie as tie
 

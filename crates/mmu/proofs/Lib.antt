@@ -1,0 +1,2 @@
+pub mod StatisticsLaws
+pub mod TsbLaws

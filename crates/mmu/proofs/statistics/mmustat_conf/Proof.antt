@@ -1,0 +1,47 @@
+-- `mmu::statistics::mmustat_conf` meets its contract: each return is the rule's case, by the verdict.
+use borrow.Author.Needs.{needs}
+use Rattle.plants.proofs.OutcomeLaws.{changes}
+use Rattle.mmu.proofs.StatisticsLaws.{conf-refused, conf-set}
+use Rattle.mmu.proofs.statistics.mmustat_conf.Statement.{statement}
+use Rattle.mmu.proofs.statistics.mmustat_conf.Tie as tie
+
+judge-statistics-requires : tie.Need-judge-statistics-requires
+judge-statistics-requires c κs = search needs
+
+enum-known-verdict : tie.Need-enum-known-verdict
+enum-known-verdict c = search needs
+
+with-statistics-requires : tie.Need-with-statistics-requires
+with-statistics-requires c κs = search needs
+
+enum-told : tie.Need-enum-told
+enum-told c = search needs
+
+mul-before : tie.Need-mul-before
+mul-before c = search needs
+
+element-copy-out-before : tie.Need-element-copy-out-before
+element-copy-out-before c = search needs
+
+with-statistics-requires-2 : tie.Need-with-statistics-requires-2
+with-statistics-requires-2 c κs = search needs
+
+returns : tie.Need-returns
+returns c = search (changes, conf-refused)
+
+returns-2 : tie.Need-returns-2
+returns-2 c = search (changes, conf-set)
+
+pub mmustat-conf-spec : {M : Type 1} → statement M
+mmustat-conf-spec =
+    tie.close
+    (tie.spec
+    judge-statistics-requires
+    enum-known-verdict
+    with-statistics-requires
+    enum-told
+    mul-before
+    element-copy-out-before
+    with-statistics-requires-2
+    returns
+    returns-2)

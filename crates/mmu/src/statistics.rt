@@ -1,0 +1,46 @@
+// The statistics address: 0x102 and 0x103.
+use plants::Done;
+use plants::with_statistics;
+use records::Verdict;
+use rules::Answer;
+use rules::Extents;
+use rules::Plant;
+ghost use mathlib.Core.Path.{_≡_};
+ghost use Prim.Native.Nat.{_≤_, _<_};
+ghost use Rattle.rules.specs.Rulings.{outcomeOf};
+ghost use Rattle.rules.specs.Memory.{mmustat-conf, mmustat-info};
+ghost use Rattle.plants.specs.Done.{quietly, saying, validIn};
+
+// 0x102: the address is set, and the one before told. A refused address is not kept, and neither is the one before.
+pub fn mmustat_conf(extents: Extents, plant: Plant, cpu: usize, address: u64) -> Done
+    requires { ⌜ (extents .count ≤ 4) × (cpu < 8) ⌝ }
+    ensures { λ r. ⌜ quietly r ≡ outcomeOf plant (mmustat-conf (validIn extents) plant cpu address) ⌝ }
+{
+    let verdict = records::judge_statistics(extents, address);
+    match verdict {
+        Verdict::Refused(r) => {
+            let cleared = with_statistics(plant, cpu, 0);
+            Done {
+                answer: Answer::Refused(r),
+                plant: cleared,
+            }
+        }
+        Verdict::Right => {
+            let before = plant.cpu[cpu];
+            let next = with_statistics(plant, cpu, address);
+            Done {
+                answer: Answer::One(before.statistics),
+                plant: next,
+            }
+        }
+    }
+}
+
+// 0x103: the address.
+pub fn mmustat_info(plant: Plant, cpu: usize) -> Answer
+    requires { ⌜ cpu < 8 ⌝ }
+    ensures { λ r. ⌜ saying plant r ≡ outcomeOf plant (mmustat-info plant cpu) ⌝ }
+{
+    let c = plant.cpu[cpu];
+    Answer::One(c.statistics)
+}

@@ -1,0 +1,3 @@
+pub mod ListedLaws
+pub mod MondoLaws
+pub mod SendLaws

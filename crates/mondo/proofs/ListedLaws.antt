@@ -1,0 +1,156 @@
+-- 0x42 once its list is read: the entries that the code keeps are those of the rule, and each return is the rule's case.
+use mathlib.Core.Path.{_≡_, refl, sym, _∙_}
+use mathlib.Core.Bool.{Bool, true, false, _&&_, not}
+use mathlib.Core.List.{List, [], _∷_, _++_}
+use mathlib.Core.Logic.{⊎-elim}
+use Prim.Native.Nat.{ℕ, zero, suc, _+_, _*_, _%_, _≤_, _<_}
+use native.Mathlib.Nat.{eq-or-lt-of-le, add-zero}
+use native.Mathlib.Omega.{arith}
+use lib.Dec.{leb, ltb, eqb}
+use lib.ListN.{length, getD, take, length-append, List·getD-append}
+use lib.Seq.{getD-take, getD-append-add}
+use borrow.Author.Tests.{ltb-true, leb-true}
+use Rattle.rules.specs.declared.Extents.{Extents}
+use Rattle.rules.specs.declared.Plant.{Plant}
+use Rattle.rules.specs.declared.Refusal.{Refusal}
+use Rattle.rules.specs.declared.Refusal.the-variants.{EWOULDBLOCK}
+use Rattle.rules.specs.declared.Answer.the-variants.{Done, Refused}
+use Rattle.rules.specs.Scan.{someBelow, allBelow}
+use Rattle.rules.specs.Real.{valid, byteAt, sightOf, bytesFrom, apply}
+use Rattle.rules.specs.Rulings.{Ruling, Outcome, done}
+use Rattle.rules.specs.Mondo.{entryAt, entries, sendAll, cpu-mondo-send}
+use Rattle.rules.proofs.Scan.{all-at}
+use Rattle.rules.proofs.Tests.{and-left, and-right}
+use Rattle.memory.specs.Ready.{present}
+use Rattle.records.specs.declared.Verdict.{Verdict}
+use Rattle.records.specs.declared.Verdict.the-variants.{Right, Refused as Told}
+use Rattle.records.specs.Verdict.{verdictOf}
+use Rattle.records.proofs.Told.{told-then}
+use Rattle.plants.specs.declared.Done.{Done as Gave}
+use Rattle.plants.specs.declared.rings.Sent.{Sent as Came}
+use Rattle.plants.specs.Follows.{Follows}
+use Rattle.plants.specs.Judged.{judged}
+use Rattle.plants.specs.Put.{Puts}
+use Rattle.mondo.specs.Steps.{mondoRanges, mondoCpus, mondoSent}
+use Rattle.plants.proofs.JudgedLaws.{judged-refused, judged-right, judged-told}
+
+-- tests that say the same of each number below n
+some-same : (p q : ℕ → Bool) (n : ℕ) → ((i : ℕ) → i < n → p i ≡ q i) → someBelow n p ≡ someBelow n q
+unfolding someBelow
+some-same p q zero f = refl
+some-same p q (suc n) f = rw (some-same p q n (λ i h. f i (omega arith)), f n (omega arith))
+
+all-same : (p q : ℕ → Bool) (n : ℕ) → ((i : ℕ) → i < n → p i ≡ q i) → allBelow n p ≡ allBelow n q
+unfolding allBelow
+all-same p q zero f = refl
+all-same p q (suc n) f = rw (all-same p q n (λ i h. f i (omega arith)), f n (omega arith))
+
+-- the entries of a list, one by one
+module _ (byte : ℕ → ℕ) (list : ℕ) where
+  entries-length : (n : ℕ) → length (entries byte list n) ≡ n
+  unfolding entries
+  entries-length zero = refl
+  entries-length (suc n) = rw (length-append, entries-length n) (omega arith)
+
+  entries-at : (n i : ℕ) → i < n → getD (entries byte list n) i 0 ≡ entryAt byte list i
+  unfolding entries
+  entries-at zero i h = absurd (omega arith)
+  entries-at (suc n) i h =
+      let k : i ≤ n = omega arith in
+      ⊎-elim
+      (λ e.
+      let q : getD (entries byte list n ++ (entryAt byte list n ∷ [])) (length (entries byte list n) + 0) 0 ≡ entryAt byte list n = getD-append-add (entries byte list n) (entryAt byte list n ∷ []) 0 0 in
+      rw e (simp (add-zero, entries-length) at q))
+      (λ l. List·getD-append (entries byte list n) _ 0 i (rw entries-length l) ∙ entries-at n i l)
+      (eq-or-lt-of-le k)
+
+  -- the entries cs that were read
+  module _ (cs : List ℕ) (count : ℕ) (e : take count cs ≡ entries byte list count) where
+    read-at : (i : ℕ) → i < count → entryAt byte list i ≡ getD cs i 0
+    read-at i h = sym (sym (getD-take count cs i 0 h) ∙ rw e (entries-at count i h))
+
+    cpus-same : (cpu cpus : ℕ) (rest : Ruling Outcome) → mondoCpus (entryAt byte list) count cpu cpus rest ≡ mondoCpus (λ i. getD cs i 0) count cpu cpus rest
+    unfolding mondoCpus
+    cpus-same cpu cpus rest =
+        rw (
+          some-same (λ i. eqb (entryAt byte list i) cpu) (λ i. eqb (getD cs i 0) cpu) count (λ i h. rw (read-at i h)),
+          all-same (λ i. ltb (entryAt byte list i) cpus) (λ i. ltb (getD cs i 0) cpus) count (λ i h. rw (read-at i h)),
+        )
+
+-- each entry is a cpuid if the entries are right
+module _ (cs : List ℕ) (count cpu : ℕ) (plant : Plant) (t : Verdict) (f : (rest : Ruling Outcome) → mondoCpus (λ i. getD cs i 0) count cpu (plant .cpus) rest ≡ judged t rest) (e : t ≡ Right) where
+  told : verdictOf (mondoCpus (λ i. getD cs i 0) count cpu (plant .cpus) (done plant)) ≡ Right
+  told = judged-told (mondoCpus (λ i. getD cs i 0) count cpu (plant .cpus)) t f e _
+
+  others-told : not (someBelow count (λ i. eqb (getD cs i 0) cpu)) ≡ true
+  unfolding mondoCpus
+  others-told = told-then _ _ _ told
+
+  below-told : allBelow count (λ i. ltb (getD cs i 0) (plant .cpus)) ≡ true
+  unfolding mondoCpus
+  below-told = told-then _ _ _ (rw others-told at told)
+
+  pub entry-below : (i : ℕ) → i < count → getD cs i 0 < plant .cpus
+  entry-below i h = ltb-true _ _ (all-at _ count i below-told h)
+
+-- the returns once the list is read
+module _ (extents : Extents) (plant : Plant) (m cs : List ℕ) (cpu count list at : ℕ) (e : take count cs ≡ entries (byteAt (present extents) m) list count)
+    (t : Verdict) (f : (rest : Ruling Outcome) → mondoCpus (λ i. getD cs i 0) count cpu (plant .cpus) rest ≡ judged t rest) where
+  abbrev asked : Ruling Outcome → Ruling Outcome
+  asked = mondoCpus (λ i. getD cs i 0) count cpu (plant .cpus)
+
+  pub listed-refused : (r : Refusal) → t ≡ Told r → Follows extents plant (mondoSent (sightOf (present extents) m) plant cpu count list at) m (record { answer = Refused r; plant = plant }) m
+  unfolding mondoSent apply
+  listed-refused r h = rw (cpus-same _ list cs count e, judged-refused asked t f r h) (record { answer = refl; plant = refl; memory = refl })
+
+  module _ (h : t ≡ Right) (packet : List ℕ) (p : packet ≡ bytesFrom (byteAt (present extents) m) at 64) (s : Came) (m′ : List ℕ) (g : Puts extents (sendAll plant (take count cs) packet list) m s m′) where
+    pub listed-sent : s .all ≡ true → Follows extents plant (mondoSent (sightOf (present extents) m) plant cpu count list at) m (record { answer = Done; plant = s .plant }) m′
+    unfolding mondoSent
+    listed-sent k =
+        rw (cpus-same _ list cs count e, judged-right asked t f h, ← p, ← e)
+        (record { answer = rw (← g .all, k); plant = g .plant; memory = g .memory })
+
+    pub listed-left : s .all ≡ false → Follows extents plant (mondoSent (sightOf (present extents) m) plant cpu count list at) m (record { answer = Refused EWOULDBLOCK; plant = s .plant }) m′
+    unfolding mondoSent
+    listed-left k =
+        rw (cpus-same _ list cs count e, judged-right asked t f h, ← p, ← e)
+        (record { answer = rw (← g .all, k); plant = g .plant; memory = g .memory })
+
+-- what is asked before the list is read
+module _ (v : ℕ → ℕ → Bool) (plant : Plant) (count list at : ℕ) (t : Verdict) (f : (rest : Ruling Outcome) → mondoRanges v count list at rest ≡ judged t rest) (e : t ≡ Right) where
+  ranges-told : verdictOf (mondoRanges v count list at (done plant)) ≡ Right
+  ranges-told = judged-told (mondoRanges v count list at) t f e _
+
+  few-told : (leb 1 count && leb count 64) ≡ true
+  unfolding mondoRanges
+  few-told = told-then _ _ _ ranges-told
+
+  align-told : (eqb (at % 64) 0 && eqb (list % 2) 0) ≡ true
+  unfolding mondoRanges
+  align-told = told-then _ _ _ (rw few-told at ranges-told)
+
+  valid-told : (v at 64 && v list (2 * count)) ≡ true
+  unfolding mondoRanges
+  valid-told = told-then _ _ _ (rw (few-told, align-told) at ranges-told)
+
+  pub count-most : count ≤ 64
+  count-most = leb-true _ _ (and-right (leb 1 count) _ few-told)
+
+  pub data-valid : v at 64 ≡ true
+  data-valid = and-left _ _ valid-told
+
+  pub list-valid : v list (2 * count) ≡ true
+  list-valid = and-right (v at 64) _ valid-told
+
+module _ (extents : Extents) (plant : Plant) (m : List ℕ) (cpu count list at : ℕ) (t : Verdict) (f : (rest : Ruling Outcome) → mondoRanges (valid (present extents)) count list at rest ≡ judged t rest) where
+  send-is : cpu-mondo-send (sightOf (present extents) m) plant cpu count list at ≡ mondoRanges (valid (present extents)) count list at (mondoSent (sightOf (present extents) m) plant cpu count list at)
+  unfolding cpu-mondo-send mondoRanges mondoSent mondoCpus
+  send-is = refl
+
+  pub send-refused : (r : Refusal) → t ≡ Told r → Follows extents plant (cpu-mondo-send (sightOf (present extents) m) plant cpu count list at) m (record { answer = Refused r; plant = plant }) m
+  unfolding apply
+  send-refused r h = rw (send-is, judged-refused (mondoRanges (valid (present extents)) count list at) t f r h) (record { answer = refl; plant = refl; memory = refl })
+
+  pub send-done : (d : Gave) (m′ : List ℕ) → t ≡ Right → Follows extents plant (mondoSent (sightOf (present extents) m) plant cpu count list at) m d m′
+      → Follows extents plant (cpu-mondo-send (sightOf (present extents) m) plant cpu count list at) m d m′
+  send-done d m′ h g = rw (send-is, judged-right (mondoRanges (valid (present extents)) count list at) t f h) g

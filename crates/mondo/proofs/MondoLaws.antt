@@ -1,0 +1,116 @@
+-- 0x42's rule at each return of the code, from the tests on the way.
+use mathlib.Core.Path.{_≡_, refl, _∙_}
+use mathlib.Core.Bool.{Bool, true, false, _&&_, not}
+use mathlib.Core.List.{List, [], _∷_, _++_, append-nil}
+use Prim.Native.Nat.{ℕ, _+_, _*_, _%_, _≤_, _<_}
+use native.Mathlib.Numerals.{add-one}
+use native.Mathlib.Omega.{arith}
+use lib.Dec.{leb, ltb, eqb}
+use lib.ListN.{length, set, take}
+use lib.Seq.{take-suc-set}
+use borrow.Author.Tests.{le-leb, lt-leb, eq-eqb, ne-eqb, not-true, not-false}
+use Rattle.rules.specs.declared.Extents.{Extents}
+use Rattle.rules.specs.declared.Plant.{Plant}
+use Rattle.rules.specs.declared.QueueRecord.{QueueRecord}
+use Rattle.rules.specs.declared.Refusal.the-variants.{EINVAL, EBADALIGN, ENORADDR, ENOCPU}
+use Rattle.rules.specs.declared.Ring.{Ring}
+use Rattle.rules.specs.Kept.{cpuAt, queueAt}
+use Rattle.rules.specs.Scan.{someBelow, allBelow}
+use Rattle.rules.specs.Real.{apply}
+use Rattle.rules.specs.Rulings.{Ruling, Outcome, if_then_else_}
+use Rattle.rules.specs.Queues.{hasRoom}
+use Rattle.rules.specs.Mondo.{entryAt, entries, Sent, sendTo, sendOne}
+use Rattle.memory.specs.Cells.{one}
+use Rattle.memory.specs.Ready.{present}
+use Rattle.memory.proofs.Writes.{apply-append}
+use Rattle.records.specs.declared.Verdict.the-variants.{Right, Refused as Told}
+use Rattle.plants.specs.declared.rings.Sent.{Sent as Came}
+use Rattle.plants.specs.Judged.{judged}
+use Rattle.plants.specs.Put.{putOne, putTo, Puts}
+use Rattle.mondo.specs.Steps.{mondoRanges, mondoCpus}
+
+-- what is asked before the list is read
+module _ (v : ℕ → ℕ → Bool) (count list at : ℕ) (rest : Ruling Outcome) where
+  pub ranges-none : count ≡ 0 → mondoRanges v count list at rest ≡ judged (Told EINVAL) rest
+  unfolding mondoRanges judged
+  ranges-none h = rw (lt-leb 1 count (omega arith))
+
+  pub ranges-many : 64 < count → mondoRanges v count list at rest ≡ judged (Told EINVAL) rest
+  unfolding mondoRanges judged
+  ranges-many h = rw (le-leb 1 count (omega arith), lt-leb count 64 h)
+
+  module _ (z : count ≡ 0 → ⊥) (h : count ≤ 64) where
+    few : (leb 1 count && leb count 64) ≡ true
+    few = rw (le-leb 1 count (omega (arith, z)), le-leb count 64 h)
+
+    pub ranges-data : (at % 64 ≡ 0 → ⊥) → mondoRanges v count list at rest ≡ judged (Told EBADALIGN) rest
+    unfolding mondoRanges judged
+    ranges-data k = rw (few, ne-eqb (at % 64) 0 k)
+
+    pub ranges-list : at % 64 ≡ 0 → (list % 2 ≡ 0 → ⊥) → mondoRanges v count list at rest ≡ judged (Told EBADALIGN) rest
+    unfolding mondoRanges judged
+    ranges-list k l = rw (few, eq-eqb (at % 64) 0 k, ne-eqb (list % 2) 0 l)
+
+    module _ (k : at % 64 ≡ 0) (l : list % 2 ≡ 0) (t : Bool) (p : t ≡ v at 64) where
+      pub ranges-no-data : not t ≡ true → mondoRanges v count list at rest ≡ judged (Told ENORADDR) rest
+      unfolding mondoRanges judged
+      ranges-no-data e = rw (few, eq-eqb (at % 64) 0 k, eq-eqb (list % 2) 0 l, ← p, not-true t e)
+
+      module _ (e : not t ≡ false) (s : Bool) (q : s ≡ v list (2 * count)) where
+        pub ranges-no-list : not s ≡ true → mondoRanges v count list at rest ≡ judged (Told ENORADDR) rest
+        unfolding mondoRanges judged
+        ranges-no-list f = rw (few, eq-eqb (at % 64) 0 k, eq-eqb (list % 2) 0 l, ← p, not-false t e, ← q, not-true s f)
+
+        pub ranges-right : not s ≡ false → mondoRanges v count list at rest ≡ judged Right rest
+        unfolding mondoRanges judged
+        ranges-right f = rw (few, eq-eqb (at % 64) 0 k, eq-eqb (list % 2) 0 l, ← p, not-false t e, ← q, not-false s f)
+
+-- no entry read, and one more
+pub read-none : (byte : ℕ → ℕ) (list : ℕ) → [] ≡ entries byte list 0
+unfolding entries
+read-none byte list = refl
+
+pub read-more : (byte : ℕ → ℕ) (list i v : ℕ) (cs : List ℕ) → take i cs ≡ entries byte list i → i < length cs → v ≡ entryAt byte list i → take (i + 1) (set cs i v) ≡ entries byte list (i + 1)
+unfolding entries
+read-more byte list i v cs e h p = rw (add-one, take-suc-set cs i v h, e, p)
+
+-- what is asked of the entries
+module _ (entry : ℕ → ℕ) (count cpu cpus : ℕ) (t : Bool) (p : t ≡ someBelow count (λ i. eqb (entry i) cpu)) (rest : Ruling Outcome) where
+  pub cpus-caller : t ≡ true → mondoCpus entry count cpu cpus rest ≡ judged (Told EINVAL) rest
+  unfolding mondoCpus judged
+  cpus-caller h = rw (← p, h)
+
+  module _ (h : t ≡ false) (s : Bool) (q : s ≡ allBelow count (λ i. ltb (entry i) cpus)) where
+    pub cpus-stranger : not s ≡ true → mondoCpus entry count cpu cpus rest ≡ judged (Told ENOCPU) rest
+    unfolding mondoCpus judged
+    cpus-stranger e = rw (← p, h, ← q, not-true s e)
+
+    pub cpus-right : not s ≡ false → mondoCpus entry count cpu cpus rest ≡ judged Right rest
+    unfolding mondoCpus judged
+    cpus-right e = rw (← p, h, ← q, not-false s e)
+
+-- one cpu: the entry is put, and marked if it was
+module _ (extents : Extents) (plant : Plant) (m : List ℕ) (cpu : ℕ) (packet : List ℕ) (mark : ℕ) where
+  abbrev marked : Sent → Sent
+  marked sent = record { plant = sent .plant; all = sent .all; writes = sent .writes ++ (if sent .all then one mark (0xff ∷ 0xff ∷ []) else []) }
+
+  one-is : sendOne plant cpu packet mark ≡ marked (putOne plant cpu 0 packet)
+  unfolding sendOne putOne
+  one-is = go (queueAt (cpuAt plant cpu) 0)
+    where
+      by : (ring : Ring) (b : Bool) → hasRoom ring ≡ b → sendTo plant cpu packet mark (QueueRecord.Set ring) ≡ marked (putTo plant cpu 0 packet (QueueRecord.Set ring))
+      by ring true e = rw e
+      by ring false e = rw e
+
+      go : (held : QueueRecord) → sendTo plant cpu packet mark held ≡ marked (putTo plant cpu 0 packet held)
+      go QueueRecord.Unset = refl
+      go (QueueRecord.Set ring) = by ring (hasRoom ring) refl
+
+  module _ (r : Came) (m₁ : List ℕ) (f : Puts extents (putOne plant cpu 0 packet) m r m₁) where
+    pub one-left : r .all ≡ false → Puts extents (sendOne plant cpu packet mark) m r m₁
+    one-left h = rw one-is (record { plant = f .plant; all = f .all; memory = f .memory ∙ rw (← f .all, h, append-nil) })
+
+    pub one-sent : (m₂ : List ℕ) → r .all ≡ true → m₂ ≡ apply (present extents) m₁ (one mark (0xff ∷ 0xff ∷ [])) → Puts extents (sendOne plant cpu packet mark) m r m₂
+    one-sent m₂ h w =
+        rw one-is
+        (record { plant = f .plant; all = f .all; memory = w ∙ rw (f .memory, ← f .all, h, apply-append) })

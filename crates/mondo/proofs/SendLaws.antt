@@ -1,0 +1,95 @@
+-- The loop that sends: what is left of the list, from i on, makes of the record and the memory as they are there what the
+-- whole list makes of those at the start.
+use mathlib.Core.Path.{_≡_, refl, sym, _∙_}
+use mathlib.Core.Bool.{Bool, true, false, _&&_, and-true}
+use mathlib.Core.List.{List, [], _++_}
+use Prim.Native.Nat.{ℕ, _+_, _*_, _≤_, _<_}
+use native.Mathlib.Numerals.{add-one}
+use native.Mathlib.Omega.{arith}
+use lib.ListN.{length, getD, take}
+use lib.Seq.{slice, slice-cons, slice-empty}
+use Rattle.rules.specs.declared.Extents.{Extents}
+use Rattle.rules.specs.declared.Plant.{Plant}
+use Rattle.rules.specs.declared.QueueRecord.{QueueRecord}
+use Rattle.rules.specs.declared.Ring.{Ring}
+use Rattle.rules.specs.Kept.{cpuAt, queueAt, withQueue}
+use Rattle.rules.specs.Real.{apply}
+use Rattle.rules.specs.Queues.{hasRoom}
+use Rattle.rules.specs.Mondo.{Sent, sendTo, sendOne, sendAll}
+use Rattle.memory.specs.Ready.{present}
+use Rattle.memory.proofs.Writes.{apply-append}
+use Rattle.records.specs.Sound.{Sound}
+use Rattle.plants.specs.declared.rings.Sent.{Sent as Came}
+use Rattle.plants.specs.Put.{Puts}
+use Rattle.plants.proofs.SoundAfter.{queue-replaced, tail-moved}
+
+-- what one step keeps
+pub record Keeps (extents : Extents) (n cpus : ℕ) (plant : Plant) : Type 0 where
+  pub sound : Sound extents plant n
+  pub same : plant .cpus ≡ cpus
+
+one-keeps : (extents : Extents) (plant : Plant) (n cpu : ℕ) (packet : List ℕ) (mark : ℕ) → Sound extents plant n → cpu < plant .cpus
+    → Keeps extents n (plant .cpus) (sendOne plant cpu packet mark .plant)
+unfolding sendOne withQueue
+one-keeps extents plant n cpu packet mark s a = go (queueAt (cpuAt plant cpu) 0) refl
+  where
+    still : Keeps extents n (plant .cpus) plant
+    still = record { sound = s; same = refl }
+
+    by : (ring : Ring) (b : Bool) → queueAt (cpuAt plant cpu) 0 ≡ QueueRecord.Set ring → hasRoom ring ≡ b → Keeps extents n (plant .cpus) (sendTo plant cpu packet mark (QueueRecord.Set ring) .plant)
+    by ring true e h = rw h (record { sound = queue-replaced extents plant n cpu 0 _ s a (tail-moved _ ring (rw e at (s .rings cpu 0 a (omega arith)))); same = refl })
+    by ring false e h = rw h still
+
+    go : (held : QueueRecord) → queueAt (cpuAt plant cpu) 0 ≡ held → Keeps extents n (plant .cpus) (sendTo plant cpu packet mark held .plant)
+    go QueueRecord.Unset e = still
+    go (QueueRecord.Set ring) e = by ring (hasRoom ring) e refl
+
+and-assoc : (a b c : Bool) → (a && (b && c)) ≡ ((a && b) && c)
+and-assoc true b c = refl
+and-assoc false b c = refl
+
+module _ (extents : Extents) (plant₀ : Plant) (m₀ cs packet : List ℕ) (list count : ℕ) where
+  -- what is left of the list
+  abbrev rest : Plant → ℕ → Sent
+  rest plant i = sendAll plant (slice i count cs) packet (list + 2 * i)
+
+  abbrev whole : Sent
+  whole = sendAll plant₀ (take count cs) packet list
+
+  pub record Sending (plant : Plant) (m : List ℕ) (all : Bool) (i : ℕ) : Type 0 where
+    pub kept : Keeps extents (length m) (plant₀ .cpus) plant
+    pub plant-is : whole .plant ≡ rest plant i .plant
+    pub all-is : whole .all ≡ (all && rest plant i .all)
+    pub memory-is : apply (present extents) m₀ (whole .writes) ≡ apply (present extents) m (rest plant i .writes)
+
+  pub sending-none : Sound extents plant₀ (length m₀) → Sending plant₀ m₀ true 0
+  sending-none s =
+      let e : list + 2 * 0 ≡ list = omega arith in
+      record { kept = record { sound = s; same = refl }; plant-is = rw e refl; all-is = rw e refl; memory-is = rw e refl }
+
+  pub sending-more : (plant : Plant) (m : List ℕ) (all : Bool) (i : ℕ) (r : Came) (m′ : List ℕ) → Sending plant m all i → i < count → count ≤ length cs → getD cs i 0 < plant₀ .cpus
+      → Puts extents (sendOne plant (getD cs i 0) packet (list + 2 * i)) m r m′ → length m′ ≡ length m → Sending (r .plant) m′ (all && r .all) (i + 1)
+  unfolding sendAll
+  sending-more plant m all i r m′ s h l a f n =
+      let o : Sent = sendOne plant (getD cs i 0) packet (list + 2 * i) in
+      let t : Sent = rest (r .plant) (i + 1) in
+      let k : Keeps extents (length m) (plant .cpus) (o .plant) = one-keeps extents plant (length m) (getD cs i 0) packet (list + 2 * i) (s .kept .sound) (rw (s .kept .same) a) in
+      let e : list + 2 * (i + 1) ≡ list + 2 * i + 2 = omega arith in
+      let key : rest plant i ≡ record { plant = t .plant; all = o .all && t .all; writes = o .writes ++ t .writes } = rw (slice-cons i count cs 0 h l, f .plant, e, add-one i) in
+      record {
+        kept = record { sound = rw (n, f .plant) (k .sound); same = rw (f .plant) (k .same ∙ s .kept .same) };
+        plant-is = s .plant-is ∙ rw key refl;
+        all-is = s .all-is ∙ rw key (and-assoc all (o .all) (t .all) ∙ rw (f .all) refl);
+        memory-is = s .memory-is ∙ rw key (apply-append (present extents) (o .writes) (t .writes) m ∙ rw (f .memory) refl);
+      }
+
+  pub sending-done : (plant : Plant) (m : List ℕ) (all : Bool) (i : ℕ) → Sending plant m all i → i ≤ count → count ≤ i → Puts extents whole m₀ (record { plant = plant; all = all }) m
+  unfolding sendAll apply
+  sending-done plant m all i s h l =
+      let e : i ≡ count = omega arith in
+      let d : slice i count cs ≡ [] = rw (e, slice-empty) in
+      record {
+        plant = sym (s .plant-is ∙ rw d refl);
+        all = sym (s .all-is ∙ rw d (and-true all));
+        memory = sym (s .memory-is ∙ rw d refl);
+      }

@@ -1,0 +1,24 @@
+-- `plants::parts::with_ctx0` meets its contract: it stores where the definition does.
+use borrow.Author.Needs.{needs}
+use Rattle.rules.specs.Kept.{withCtx0}
+use Rattle.plants.proofs.parts.with_ctx0.Statement.{statement}
+use Rattle.plants.proofs.parts.with_ctx0.Tie as tie
+
+mul-c : tie.Need-mul-c
+mul-c c = search needs
+
+element-copy-out-c : tie.Need-element-copy-out-c
+element-copy-out-c c = search needs
+
+mul-c-2 : tie.Need-mul-c-2
+mul-c-2 c = search needs
+
+element-set-from-c : tie.Need-element-set-from-c
+element-set-from-c c = search needs
+
+returns : tie.Need-returns
+unfolding withCtx0
+returns c = search needs
+
+pub with-ctx0-spec : {M : Type 1} → statement M
+with-ctx0-spec = tie.close (tie.spec mul-c element-copy-out-c mul-c-2 element-set-from-c returns)

@@ -1,0 +1,23 @@
+-- What the code gives back, as an outcome of the rules.
+use mathlib.Core.Bool.{Bool}
+use mathlib.Core.List.{[]}
+use Prim.Native.Nat.{ℕ}
+use lib.ListN.{take}
+use Rattle.rules.specs.declared.Answer.{Answer}
+use Rattle.rules.specs.declared.Extents.{Extents}
+use Rattle.rules.specs.declared.Plant.{Plant}
+use Rattle.rules.specs.Real.{valid}
+use Rattle.rules.specs.Rulings.{Outcome}
+use Rattle.plants.specs.declared.Done.{Done}
+
+-- the ranges that are valid through the extents that are there
+abbrev pub validIn : Extents → ℕ → ℕ → Bool
+validIn extents = valid (take (extents .count) (extents .list))
+
+-- an answer and a record, with nothing written
+abbrev pub quietly : Done → Outcome
+quietly d = record { answer = d .answer; plant = d .plant; writes = [] }
+
+-- an answer, with the record as it was and nothing written
+abbrev pub saying : Plant → Answer → Outcome
+saying plant answer = record { answer = answer; plant = plant; writes = [] }

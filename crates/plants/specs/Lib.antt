@@ -1,0 +1,4 @@
+pub mod Done
+pub mod Follows
+pub mod Judged
+pub mod Put

@@ -1,0 +1,170 @@
+// Queues: 0x14, 0x15, 0x16 and the head write.
+use plants::Done;
+use plants::queue_at;
+use plants::with_queue;
+use records::Verdict;
+use rules::Answer;
+use rules::Extents;
+use rules::Plant;
+use rules::QueueRecord;
+use rules::Refusal;
+use rules::Ring;
+ghost use mathlib.Core.Path.{_≡_};
+ghost use Prim.Native.Nat.{_≤_, _<_, _-_};
+ghost use Rattle.rules.specs.Rulings.{outcomeOf};
+ghost use Rattle.rules.specs.declared.Plant.{Plant as PlantRecord};
+ghost use Rattle.rules.specs.Kept.{cpuAt, queueAt};
+ghost use Rattle.rules.specs.Queues.{forward, cpu-qconf, cpu-qinfo, cpu-myid, write-head};
+ghost use Rattle.plants.specs.Done.{quietly, saying, validIn};
+ghost use Rattle.queues.specs.Rings.{PlacesIn, PlacesSound, newHead, movedOf};
+
+// 0x14: a queue's ring is set, or with n = 0 unset.
+pub fn cpu_qconf(extents: Extents, plant: Plant, cpu: usize, queue: u64, base: u64, n: u64) -> Done
+    requires { ⌜ (extents .count ≤ 4) × (cpu < 8) ⌝ }
+    ensures { λ r. ⌜ quietly r ≡ outcomeOf plant (cpu-qconf (validIn extents) plant cpu queue base n) ⌝ }
+{
+    if queue < 0x3c {
+        return Done {
+            answer: Answer::Refused(Refusal::EINVAL),
+            plant,
+        };
+    }
+    if 0x3f < queue {
+        return Done {
+            answer: Answer::Refused(Refusal::EINVAL),
+            plant,
+        };
+    }
+    let q = (queue - 0x3c) as usize;
+    if n == 0 {
+        let next = with_queue(plant, cpu, q, QueueRecord::Unset);
+        return Done {
+            answer: Answer::Done,
+            plant: next,
+        };
+    }
+    let verdict = records::judge_ring(extents, base, n);
+    match verdict {
+        Verdict::Refused(r) => Done {
+            answer: Answer::Refused(r),
+            plant,
+        },
+        Verdict::Right => {
+            let ring = Ring {
+                base,
+                size: (64 * n) as u16,
+                head: 0,
+                tail: 0,
+            };
+            let next = with_queue(plant, cpu, q, QueueRecord::Set(ring));
+            Done {
+                answer: Answer::Done,
+                plant: next,
+            }
+        }
+    }
+}
+
+// 0x15: a queue's base and number of entries, both 0 if it is unset.
+pub fn cpu_qinfo(plant: Plant, cpu: usize, queue: u64) -> Answer
+    requires { ⌜ cpu < 8 ⌝ }
+    ensures { λ r. ⌜ saying plant r ≡ outcomeOf plant (cpu-qinfo plant cpu queue) ⌝ }
+{
+    if queue < 0x3c {
+        return Answer::Refused(Refusal::EINVAL);
+    }
+    if 0x3f < queue {
+        return Answer::Refused(Refusal::EINVAL);
+    }
+    let held = queue_at(plant, cpu, (queue - 0x3c) as usize);
+    match held {
+        QueueRecord::Unset => Answer::Two(0, 0),
+        QueueRecord::Set(ring) => Answer::Two(ring.base, (ring.size as u64) / 64),
+    }
+}
+
+// 0x16: the cpu's own number, whatever the plant's record is.
+pub fn cpu_myid(cpu: usize) -> Answer
+    ensures { λ r. ⌜ ((plant : PlantRecord) → saying plant r ≡ outcomeOf plant (cpu-myid plant cpu)) ⌝ }
+{
+    Answer::One(cpu as u64)
+}
+
+// How far a place of the ring lies forward from its head.
+fn forward_to(ring: Ring, to: u64) -> u64
+    requires { ⌜ (ring .head < ring .size) × (to < ring .size) ⌝ }
+    ensures { λ r. ⌜ r ≡ forward ring to ⌝ }
+{
+    let size = ring.size as u64;
+    let head = ring.head as u64;
+    (to + size - head) % size
+}
+
+// A ring with its head written, or the status that refuses it.
+enum Moved {
+    Refused(Refusal),
+    To(Ring),
+}
+
+// The head moves forward, at most to the tail.
+fn head_moves(ring: Ring, value: u64) -> Moved
+    requires { ⌜ PlacesIn ring ⌝ }
+    ensures { λ r. ⌜ r ≡ movedOf (newHead ring value) ⌝ }
+{
+    if value % 64 != 0 {
+        return Moved::Refused(Refusal::EBADALIGN);
+    }
+    let size = ring.size as u64;
+    if size <= value {
+        return Moved::Refused(Refusal::EINVAL);
+    }
+    let there = forward_to(ring, value);
+    let last = forward_to(ring, ring.tail as u64);
+    if last < there {
+        return Moved::Refused(Refusal::EINVAL);
+    }
+    let mut next = ring;
+    next.head = value as u16;
+    Moved::To(next)
+}
+
+// The head write: it moves the one field of one ring.
+pub fn write_head(plant: Plant, cpu: usize, queue: u64, value: u64) -> Done
+    requires { ⌜ (cpu < 8) × (queue ≤ 0x3f → PlacesSound (queueAt (cpuAt plant cpu) (queue - 0x3c))) ⌝ }
+    ensures { λ r. ⌜ quietly r ≡ outcomeOf plant (write-head plant cpu queue value) ⌝ }
+{
+    if queue < 0x3c {
+        return Done {
+            answer: Answer::Refused(Refusal::EINVAL),
+            plant,
+        };
+    }
+    if 0x3f < queue {
+        return Done {
+            answer: Answer::Refused(Refusal::EINVAL),
+            plant,
+        };
+    }
+    let q = (queue - 0x3c) as usize;
+    let held = queue_at(plant, cpu, q);
+    let QueueRecord::Set(ring) = held else {
+        return Done {
+            answer: Answer::Refused(Refusal::EINVAL),
+            plant,
+        };
+    };
+    let moved = head_moves(ring, value);
+    match moved {
+        Moved::Refused(r) => Done {
+            answer: Answer::Refused(r),
+            plant,
+        },
+        Moved::To(after) => {
+            let next = with_queue(plant, cpu, q, QueueRecord::Set(after));
+            Done {
+                answer: Answer::Done,
+                plant: next,
+            }
+        }
+    }
+}

@@ -1,0 +1,28 @@
+-- The steps of a raise that are functions of their own in the code.
+use mathlib.Core.List.{List, _++_}
+use Prim.Native.Nat.{ℕ}
+use lib.Dec.{eqb}
+use lib.ListN.{replicate}
+use Rattle.rules.specs.declared.Answer.the-variants.{One}
+use Rattle.rules.specs.declared.Plant.{Plant}
+use Rattle.rules.specs.Kept.{cpuAt, queueAt, sourceAt, withSource, withState}
+use Rattle.rules.specs.Real.{wordBytes}
+use Rattle.rules.specs.Rulings.{Ruling, granted, Outcome, if_then_else_}
+use Rattle.rules.specs.Sources.{devMondo, deliverTo}
+use Rattle.plants.specs.declared.Done.{Done}
+
+-- word 0 of an entry
+unfoldable pub deviceWord : Plant → ℕ → ℕ
+deviceWord plant i = if eqb (plant .versions .interrupt) 2 then sourceAt plant i .cookie else i
+
+-- an entry of one word and seven zero words
+unfoldable pub entryOf : ℕ → List ℕ
+entryOf word = wordBytes word ++ replicate 56 0
+
+-- the state of source i is set, and answered
+unfoldable pub becoming : Plant → ℕ → ℕ → Done
+becoming plant i state = record { answer = One state; plant = withSource plant i (withState (sourceAt plant i) state) }
+
+-- the entry of source i to the 0x3d ring of a cpu
+unfoldable pub delivering : Plant → ℕ → ℕ → Ruling Outcome
+delivering plant i cpu = granted (deliverTo plant i cpu (queueAt (cpuAt plant cpu) devMondo))

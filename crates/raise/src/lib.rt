@@ -1,0 +1,89 @@
+// Raise: a device interrupts.
+use plants::Done;
+use plants::put_entry;
+use plants::with_source;
+use rules::Answer;
+use rules::Extents;
+use rules::Plant;
+use rules::Target;
+ghost use mathlib.Core.Path.{_≡_};
+ghost use Prim.Native.Nat.{_<_};
+ghost use lib.ListN.{length};
+ghost use Rattle.rules.specs.Sources.{raiseAt};
+ghost use Rattle.records.specs.Sound.{Sound};
+ghost use Rattle.plants.specs.Follows.{Follows};
+ghost use Rattle.raise.specs.Raised.{deviceWord, entryOf, becoming, delivering};
+
+// Word 0 of a source's entry: its cookie, or under 1.0 its sysino.
+fn device_word(plant: Plant, i: usize) -> u64
+    requires { ⌜ i < 16 ⌝ }
+    ensures { λ r. ⌜ r ≡ deviceWord plant i ⌝ }
+{
+    if plant.versions.interrupt == 2 {
+        let source = plant.source[i];
+        return source.cookie;
+    }
+    i as u64
+}
+
+// An entry of one word and seven zero words.
+fn entry_of(word: u64) -> [u8; 64]
+    ensures { λ r. ⌜ r ≡ entryOf word ⌝ }
+{
+    let mut entry = [0u8; 64];
+    let bytes = memory::word_bytes(word);
+    memory::write(&mut entry, 0, &bytes);
+    entry
+}
+
+// The state becomes what it is answered to be.
+fn becomes(plant: Plant, i: usize, state: u8) -> Done
+    requires { ⌜ i < 16 ⌝ }
+    ensures { λ r. ⌜ r ≡ becoming plant i state ⌝ }
+{
+    let mut source = plant.source[i];
+    source.state = state;
+    let next = with_source(plant, i, source);
+    Done {
+        answer: Answer::One(state as u64),
+        plant: next,
+    }
+}
+
+// An entry for source i at the tail of a cpu's 0x3d ring, if it has room.
+fn deliver(extents: Extents, plant: Plant, mem: &mut [u8], i: usize, cpu: usize) -> Done
+    requires { ⌜ Sound extents plant (length (now mem)) ⌝ }
+    requires { ⌜ (i < 16) × (cpu < plant .cpus) ⌝ }
+    ensures { λ r. ⌜ Follows extents plant (delivering plant i cpu) (now (mem .entry)) r (now (mem .exit)) ⌝ }
+{
+    let entry = entry_of(device_word(plant, i));
+    let sent = put_entry(extents, plant, mem, cpu, 1, &entry);
+    if !sent.all {
+        return becomes(plant, i, 1);
+    }
+    let next = sent.plant;
+    becomes(next, i, 2)
+}
+
+// The source at position i is raised: delivered stays; enabled, with a target, it goes there; else it is received.
+pub fn raise_at(extents: Extents, plant: Plant, mem: &mut [u8], i: usize) -> Done
+    requires { ⌜ Sound extents plant (length (now mem)) ⌝ }
+    requires { ⌜ i < plant .sources ⌝ }
+    ensures { λ r. ⌜ Follows extents plant (raiseAt plant i) (now (mem .entry)) r (now (mem .exit)) ⌝ }
+{
+    let source = plant.source[i];
+    if source.state == 2 {
+        return Done {
+            answer: Answer::One(2),
+            plant,
+        };
+    }
+    if source.enabled != 1 {
+        return becomes(plant, i, 1);
+    }
+    let target = source.target;
+    match target {
+        Target::Unset => becomes(plant, i, 1),
+        Target::Cpu(c) => deliver(extents, plant, mem, i, c as usize),
+    }
+}

@@ -1,0 +1,267 @@
+// Interrupt sources: 0xa0 to 0xae.
+use plants::Done;
+use plants::told;
+use plants::with_source;
+use rules::Answer;
+use rules::Found;
+use rules::Plant;
+use rules::Refusal;
+use rules::Source;
+use rules::Target;
+ghost use mathlib.Core.Path.{_≡_};
+ghost use mathlib.Core.Bool.{_&&_};
+ghost use Prim.Native.Nat.{_≤_, _<_};
+ghost use lib.Dec.{eqb};
+ghost use Rattle.rules.specs.Image.{named};
+ghost use Rattle.rules.specs.Kept.{withTarget};
+ghost use Rattle.rules.specs.Rulings.{outcomeOf};
+ghost use Rattle.rules.specs.Sources.{sysinoOf, targetNumber, get-enabled, set-enabled, get-state, set-state, get-target, set-target, get-cookie, set-cookie, intr-devino2sysino, intr, vintr};
+ghost use Rattle.plants.specs.Done.{quietly, saying};
+
+fn is_named(s: Source, devhandle: u64, devino: u64) -> bool
+    ensures { λ r. ⌜ r ≡ named s devhandle devino ⌝ }
+{
+    if s.devhandle as u64 != devhandle {
+        return false;
+    }
+    s.devino as u64 == devino
+}
+
+// The position in the guest's own list: what lies past its end is not looked at.
+pub fn sysino_of(plant: Plant, devhandle: u64, devino: u64) -> Found
+    requires { ⌜ plant .sources ≤ 16 ⌝ }
+    ensures { λ r. ⌜ r ≡ sysinoOf plant devhandle devino ⌝ }
+{
+    let count = plant.sources as usize;
+    let source = plant.source;
+    let mut i = 0;
+    while i < count {
+        let s = source[i];
+        if is_named(s, devhandle, devino) {
+            return Found::At(i);
+        }
+        i += 1;
+    }
+    Found::Nothing
+}
+
+fn get_enabled(plant: Plant, i: usize) -> Answer
+    requires { ⌜ i < 16 ⌝ }
+    ensures { λ r. ⌜ saying plant r ≡ outcomeOf plant (get-enabled plant i) ⌝ }
+{
+    let s = plant.source[i];
+    Answer::One(s.enabled as u64)
+}
+
+fn get_state(plant: Plant, i: usize) -> Answer
+    requires { ⌜ i < 16 ⌝ }
+    ensures { λ r. ⌜ saying plant r ≡ outcomeOf plant (get-state plant i) ⌝ }
+{
+    let s = plant.source[i];
+    Answer::One(s.state as u64)
+}
+
+fn get_cookie(plant: Plant, i: usize) -> Answer
+    requires { ⌜ i < 16 ⌝ }
+    ensures { λ r. ⌜ saying plant r ≡ outcomeOf plant (get-cookie plant i) ⌝ }
+{
+    let s = plant.source[i];
+    Answer::One(s.cookie)
+}
+
+// An unset target reads 0.
+fn target_number(target: Target) -> u64
+    ensures { λ r. ⌜ r ≡ targetNumber target ⌝ }
+{
+    match target {
+        Target::Unset => 0,
+        Target::Cpu(c) => c as u64,
+    }
+}
+
+fn get_target(plant: Plant, i: usize) -> Answer
+    requires { ⌜ i < 16 ⌝ }
+    ensures { λ r. ⌜ saying plant r ≡ outcomeOf plant (get-target plant i) ⌝ }
+{
+    let s = plant.source[i];
+    let target = s.target;
+    Answer::One(target_number(target))
+}
+
+// Enabling that a source without a cookie does not allow, under 2.0.
+fn lacks_cookie(version: u8, cookie: u64, value: u64) -> bool
+    ensures { λ r. ⌜ r ≡ (eqb value 1 && (eqb version 2 && eqb cookie 0)) ⌝ }
+{
+    if value != 1 {
+        return false;
+    }
+    if version != 2 {
+        return false;
+    }
+    cookie == 0
+}
+
+fn set_enabled(plant: Plant, i: usize, value: u64) -> Done
+    requires { ⌜ i < 16 ⌝ }
+    ensures { λ r. ⌜ quietly r ≡ outcomeOf plant (set-enabled plant i value) ⌝ }
+{
+    if 1 < value {
+        return Done {
+            answer: Answer::Refused(Refusal::EINVAL),
+            plant,
+        };
+    }
+    let mut s = plant.source[i];
+    if lacks_cookie(plant.versions.interrupt, s.cookie, value) {
+        return Done {
+            answer: Answer::Refused(Refusal::EINVAL),
+            plant,
+        };
+    }
+    s.enabled = value as u8;
+    let next = with_source(plant, i, s);
+    Done {
+        answer: Answer::Done,
+        plant: next,
+    }
+}
+
+fn set_state(plant: Plant, i: usize, value: u64) -> Done
+    requires { ⌜ i < 16 ⌝ }
+    ensures { λ r. ⌜ quietly r ≡ outcomeOf plant (set-state plant i value) ⌝ }
+{
+    if 2 < value {
+        return Done {
+            answer: Answer::Refused(Refusal::EINVAL),
+            plant,
+        };
+    }
+    let mut s = plant.source[i];
+    s.state = value as u8;
+    let next = with_source(plant, i, s);
+    Done {
+        answer: Answer::Done,
+        plant: next,
+    }
+}
+
+fn with_target(s: Source, target: Target) -> Source
+    ensures { λ r. ⌜ r ≡ withTarget s target ⌝ }
+{
+    Source {
+        devhandle: s.devhandle,
+        devino: s.devino,
+        cookies: s.cookies,
+        enabled: s.enabled,
+        state: s.state,
+        target,
+        cookie: s.cookie,
+    }
+}
+
+// The cpu has to be one of the guest's own.
+fn set_target(plant: Plant, i: usize, value: u64) -> Done
+    requires { ⌜ i < 16 ⌝ }
+    ensures { λ r. ⌜ quietly r ≡ outcomeOf plant (set-target plant i value) ⌝ }
+{
+    let cpus = plant.cpus as u64;
+    if cpus <= value {
+        return Done {
+            answer: Answer::Refused(Refusal::ENOCPU),
+            plant,
+        };
+    }
+    let s = plant.source[i];
+    let next = with_source(plant, i, with_target(s, Target::Cpu(value as u8)));
+    Done {
+        answer: Answer::Done,
+        plant: next,
+    }
+}
+
+// Cookie 0 disables; 1 to 2,047 are no cookies.
+fn set_cookie(plant: Plant, i: usize, value: u64) -> Done
+    requires { ⌜ i < 16 ⌝ }
+    ensures { λ r. ⌜ quietly r ≡ outcomeOf plant (set-cookie plant i value) ⌝ }
+{
+    let mut s = plant.source[i];
+    s.cookie = value;
+    if value == 0 {
+        s.enabled = 0;
+        let next = with_source(plant, i, s);
+        return Done {
+            answer: Answer::Done,
+            plant: next,
+        };
+    }
+    if value <= 2047 {
+        return Done {
+            answer: Answer::Refused(Refusal::EINVAL),
+            plant,
+        };
+    }
+    let next = with_source(plant, i, s);
+    Done {
+        answer: Answer::Done,
+        plant: next,
+    }
+}
+
+// 0xa0: the sysino of a source.
+pub fn intr_devino2sysino(plant: Plant, devhandle: u64, devino: u64) -> Answer
+    requires { ⌜ plant .sources ≤ 16 ⌝ }
+    ensures { λ r. ⌜ saying plant r ≡ outcomeOf plant (intr-devino2sysino plant devhandle devino) ⌝ }
+{
+    let found = sysino_of(plant, devhandle, devino);
+    match found {
+        Found::Nothing => Answer::Refused(Refusal::EINVAL),
+        Found::At(i) => Answer::One(i as u64),
+    }
+}
+
+// 0xa1 to 0xa6, by sysino.
+pub fn intr(plant: Plant, function: u64, sysino: u64, value: u64) -> Done
+    requires { ⌜ plant .sources ≤ 16 ⌝ }
+    ensures { λ r. ⌜ quietly r ≡ outcomeOf plant (intr plant function sysino value) ⌝ }
+{
+    let count = plant.sources as u64;
+    if count <= sysino {
+        return told(plant, Answer::Refused(Refusal::EINVAL));
+    }
+    let i = sysino as usize;
+    match function {
+        0xa1 => told(plant, get_enabled(plant, i)),
+        0xa2 => set_enabled(plant, i, value),
+        0xa3 => told(plant, get_state(plant, i)),
+        0xa4 => set_state(plant, i, value),
+        0xa5 => told(plant, get_target(plant, i)),
+        0xa6 => set_target(plant, i, value),
+        _ => told(plant, Answer::Refused(Refusal::EBADTRAP)),
+    }
+}
+
+// 0xa7 to 0xae, by devhandle and devino.
+pub fn vintr(plant: Plant, function: u64, devhandle: u64, devino: u64, value: u64) -> Done
+    requires { ⌜ plant .sources ≤ 16 ⌝ }
+    ensures { λ r. ⌜ quietly r ≡ outcomeOf plant (vintr plant function devhandle devino value) ⌝ }
+{
+    let found = sysino_of(plant, devhandle, devino);
+    let Found::At(i) = found else {
+        return told(plant, Answer::Refused(Refusal::EINVAL));
+    };
+    let s = plant.source[i];
+    if !s.cookies {
+        return told(plant, Answer::Refused(Refusal::ENOTSUPPORTED));
+    }
+    match function {
+        0xa7 => told(plant, get_cookie(plant, i)),
+        0xa8 => set_cookie(plant, i, value),
+        0xa9 => told(plant, get_enabled(plant, i)),
+        0xaa => set_enabled(plant, i, value),
+        0xab => told(plant, get_state(plant, i)),
+        0xac => set_state(plant, i, value),
+        0xad => told(plant, get_target(plant, i)),
+        0xae => set_target(plant, i, value),
+        _ => told(plant, Answer::Refused(Refusal::EBADTRAP)),
+    }
+}
