@@ -7,13 +7,14 @@ use rules::Extents;
 use rules::Plant;
 ghost use mathlib.Core.Path.{_≡_};
 ghost use Prim.Native.Nat.{_≤_, _<_};
+ghost use Rattle.rules.specs.Limits.{cpuLimit, extentLimit};
 ghost use Rattle.rules.specs.Rulings.{outcomeOf};
 ghost use Rattle.rules.specs.Memory.{mmustat-conf, mmustat-info};
 ghost use Rattle.plants.specs.Done.{quietly, saying, validIn};
 
 // 0x102: the address is set, and the one before told. A refused address is not kept, and neither is the one before.
 pub fn mmustat_conf(extents: Extents, plant: Plant, cpu: usize, address: u64) -> Done
-    requires { ⌜ (extents .count ≤ 4) × (cpu < 8) ⌝ }
+    requires { ⌜ (extents .count ≤ extentLimit) × (cpu < cpuLimit) ⌝ }
     ensures { λ r. ⌜ quietly r ≡ outcomeOf plant (mmustat-conf (validIn extents) plant cpu address) ⌝ }
 {
     let verdict = records::judge_statistics(extents, address);
@@ -38,7 +39,7 @@ pub fn mmustat_conf(extents: Extents, plant: Plant, cpu: usize, address: u64) ->
 
 // 0x103: the address.
 pub fn mmustat_info(plant: Plant, cpu: usize) -> Answer
-    requires { ⌜ cpu < 8 ⌝ }
+    requires { ⌜ cpu < cpuLimit ⌝ }
     ensures { λ r. ⌜ saying plant r ≡ outcomeOf plant (mmustat-info plant cpu) ⌝ }
 {
     let c = plant.cpu[cpu];

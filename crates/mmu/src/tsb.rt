@@ -15,6 +15,7 @@ ghost use mathlib.Core.Path.{_≡_};
 ghost use mathlib.Core.Bool.{true};
 ghost use Prim.Native.Nat.{_*_, _<_, _≤_};
 ghost use lib.ListN.{length};
+ghost use Rattle.rules.specs.Limits.{extentLimit, tsbLimit};
 ghost use Rattle.rules.specs.Kept.{blankTsbs};
 ghost use Rattle.rules.specs.Real.{valid, byteAt, sightOf};
 ghost use Rattle.rules.specs.Rulings.{granted};
@@ -33,7 +34,7 @@ pub struct NewTsbs {
 
 // The descriptor at a real address, all of it but the reserved word.
 fn descriptor_at(extents: Extents, mem: &[u8], real: Real) -> Tsb
-    requires { ⌜ extents .count ≤ 4 ⌝ }
+    requires { ⌜ extents .count ≤ extentLimit ⌝ }
     requires { ⌜ Ready (present extents) (length (now mem)) ⌝ }
     requires { ⌜ valid (present extents) (real .0) 32 ≡ true ⌝ }
     ensures { λ r. ⌜ r ≡ descriptorAt (byteAt (present extents) (now (mem .entry))) (real .0) ⌝ }
@@ -74,7 +75,7 @@ fn no_tsbs(verdict: Verdict) -> NewTsbs
 
 // The descriptors from pointer on: the first bad one decides.
 fn read_tsbs(extents: Extents, mem: &[u8], count: u8, pointer: u64) -> NewTsbs
-    requires { ⌜ (extents .count ≤ 4) × (count ≤ 4) ⌝ }
+    requires { ⌜ (extents .count ≤ extentLimit) × (count ≤ tsbLimit) ⌝ }
     requires { ⌜ Ready (present extents) (length (now mem)) ⌝ }
     requires { ⌜ valid (present extents) pointer (32 * count) ≡ true ⌝ }
     ensures { λ r. ⌜ listed (sightOf (present extents) (now (mem .entry))) pointer count ≡ judged (r .verdict) (granted (r .tsbs)) ⌝ }
@@ -100,7 +101,7 @@ fn read_tsbs(extents: Extents, mem: &[u8], count: u8, pointer: u64) -> NewTsbs
 
 // The list that 0x20 and 0x21 set.
 fn new_tsbs(extents: Extents, mem: &[u8], ntsb: u64, pointer: u64) -> NewTsbs
-    requires { ⌜ extents .count ≤ 4 ⌝ }
+    requires { ⌜ extents .count ≤ extentLimit ⌝ }
     requires { ⌜ Ready (present extents) (length (now mem)) ⌝ }
     ensures { λ r. ⌜ newTsbs (sightOf (present extents) (now (mem .entry))) ntsb pointer ≡ judged (r .verdict) (granted (r .tsbs)) ⌝ }
 {

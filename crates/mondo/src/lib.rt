@@ -13,6 +13,7 @@ ghost use mathlib.Core.Bool.{true};
 ghost use Prim.Native.Nat.{ℕ, _*_, _<_, _≤_};
 ghost use lib.Dec.{eqb, ltb};
 ghost use lib.ListN.{length, getD, take};
+ghost use Rattle.rules.specs.Limits.{extentLimit};
 ghost use Rattle.rules.specs.Scan.{someBelow, allBelow};
 ghost use Rattle.rules.specs.Real.{valid, byteAt, sightOf};
 ghost use Rattle.rules.specs.Rulings.{Ruling, Outcome};
@@ -29,7 +30,7 @@ const MONDOS: usize = 64;
 
 // What is asked before the list is read.
 fn judge_ranges(extents: Extents, count: u64, list: u64, data: u64) -> Verdict
-    requires { ⌜ extents .count ≤ 4 ⌝ }
+    requires { ⌜ extents .count ≤ extentLimit ⌝ }
     ensures { λ r. ⌜ ((rest : Ruling Outcome) → mondoRanges (valid (present extents)) count list «data» rest ≡ judged r rest) ⌝ }
 {
     if count == 0 {
@@ -55,7 +56,7 @@ fn judge_ranges(extents: Extents, count: u64, list: u64, data: u64) -> Verdict
 
 // The entries of a list.
 fn read_list(extents: Extents, mem: &[u8], list: u64, count: usize) -> [u16; MONDOS]
-    requires { ⌜ (extents .count ≤ 4) × (count ≤ 64) ⌝ }
+    requires { ⌜ (extents .count ≤ extentLimit) × (count ≤ 64) ⌝ }
     requires { ⌜ Ready (present extents) (length (now mem)) ⌝ }
     requires { ⌜ valid (present extents) list (2 * count) ≡ true ⌝ }
     ensures { λ r. ⌜ take count r ≡ entries (byteAt (present extents) (now (mem .entry))) list count ⌝ }

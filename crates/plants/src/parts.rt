@@ -6,11 +6,12 @@ use rules::Source;
 use rules::TsbList;
 ghost use mathlib.Core.Path.{_≡_};
 ghost use Prim.Native.Nat.{_<_};
+ghost use Rattle.rules.specs.Limits.{cpuLimit, queueLimit, sourceLimit};
 ghost use Rattle.rules.specs.Kept.{cpuAt, queueAt, withQueue, withStatistics, withSource, withCtx0, withCtxnon0};
 
 // Queue q of a cpu.
 pub fn queue_at(plant: Plant, cpu: usize, q: usize) -> QueueRecord
-    requires { ⌜ (cpu < 8) × (q < 4) ⌝ }
+    requires { ⌜ (cpu < cpuLimit) × (q < queueLimit) ⌝ }
     ensures { λ r. ⌜ r ≡ queueAt (cpuAt plant cpu) q ⌝ }
 {
     let c = plant.cpu[cpu];
@@ -20,7 +21,7 @@ pub fn queue_at(plant: Plant, cpu: usize, q: usize) -> QueueRecord
 
 // Queue q of a cpu replaced.
 pub fn with_queue(plant: Plant, cpu: usize, q: usize, held: QueueRecord) -> Plant
-    requires { ⌜ (cpu < 8) × (q < 4) ⌝ }
+    requires { ⌜ (cpu < cpuLimit) × (q < queueLimit) ⌝ }
     ensures { λ r. ⌜ r ≡ withQueue plant cpu q held ⌝ }
 {
     let mut c = plant.cpu[cpu];
@@ -32,7 +33,7 @@ pub fn with_queue(plant: Plant, cpu: usize, q: usize, held: QueueRecord) -> Plan
 
 // The statistics address of a cpu replaced.
 pub fn with_statistics(plant: Plant, cpu: usize, address: u64) -> Plant
-    requires { ⌜ cpu < 8 ⌝ }
+    requires { ⌜ cpu < cpuLimit ⌝ }
     ensures { λ r. ⌜ r ≡ withStatistics plant cpu address ⌝ }
 {
     let mut c = plant.cpu[cpu];
@@ -44,7 +45,7 @@ pub fn with_statistics(plant: Plant, cpu: usize, address: u64) -> Plant
 
 // Source i replaced.
 pub fn with_source(plant: Plant, i: usize, source: Source) -> Plant
-    requires { ⌜ i < 16 ⌝ }
+    requires { ⌜ i < sourceLimit ⌝ }
     ensures { λ r. ⌜ r ≡ withSource plant i source ⌝ }
 {
     let mut next = plant;
@@ -54,7 +55,7 @@ pub fn with_source(plant: Plant, i: usize, source: Source) -> Plant
 
 // A cpu's TSB list for context 0 replaced.
 pub fn with_ctx0(plant: Plant, cpu: usize, tsbs: TsbList) -> Plant
-    requires { ⌜ cpu < 8 ⌝ }
+    requires { ⌜ cpu < cpuLimit ⌝ }
     ensures { λ r. ⌜ r ≡ withCtx0 plant cpu tsbs ⌝ }
 {
     let mut c = plant.cpu[cpu];
@@ -66,7 +67,7 @@ pub fn with_ctx0(plant: Plant, cpu: usize, tsbs: TsbList) -> Plant
 
 // A cpu's TSB list for the other contexts replaced.
 pub fn with_ctxnon0(plant: Plant, cpu: usize, tsbs: TsbList) -> Plant
-    requires { ⌜ cpu < 8 ⌝ }
+    requires { ⌜ cpu < cpuLimit ⌝ }
     ensures { λ r. ⌜ r ≡ withCtxnon0 plant cpu tsbs ⌝ }
 {
     let mut c = plant.cpu[cpu];

@@ -8,6 +8,7 @@ use rules::Ring;
 ghost use mathlib.Core.Path.{_≡_};
 ghost use Prim.Native.Nat.{_<_, _≤_};
 ghost use lib.ListN.{length};
+ghost use Rattle.rules.specs.Limits.{queueLimit};
 ghost use Rattle.rules.specs.Queues.{nextTail};
 ghost use Rattle.records.specs.Sound.{Sound};
 ghost use Rattle.plants.specs.Put.{putOne, Puts};
@@ -36,7 +37,7 @@ pub fn put_entry(
     entry: &[u8; 64],
 ) -> Sent
     requires { ⌜ Sound extents plant (length (now mem)) ⌝ }
-    requires { ⌜ (cpu < plant .cpus) × (q < 4) ⌝ }
+    requires { ⌜ (cpu < plant .cpus) × (q < queueLimit) ⌝ }
     ensures { λ r. ⌜ Puts extents (putOne plant cpu q (now (entry .entry))) (now (mem .entry)) r (now (mem .exit)) ⌝ }
 {
     let c = plant.cpu[cpu];

@@ -11,6 +11,7 @@ use rules::Refusal;
 use rules::Ring;
 ghost use mathlib.Core.Path.{_≡_};
 ghost use Prim.Native.Nat.{_≤_, _<_, _-_};
+ghost use Rattle.rules.specs.Limits.{cpuLimit, extentLimit};
 ghost use Rattle.rules.specs.Rulings.{outcomeOf};
 ghost use Rattle.rules.specs.declared.Plant.{Plant as PlantRecord};
 ghost use Rattle.rules.specs.Kept.{cpuAt, queueAt};
@@ -20,7 +21,7 @@ ghost use Rattle.queues.specs.Rings.{PlacesIn, PlacesSound, newHead, mov
 
 // 0x14: a queue's ring is set, or with n = 0 unset.
 pub fn cpu_qconf(extents: Extents, plant: Plant, cpu: usize, queue: u64, base: u64, n: u64) -> Done
-    requires { ⌜ (extents .count ≤ 4) × (cpu < 8) ⌝ }
+    requires { ⌜ (extents .count ≤ extentLimit) × (cpu < cpuLimit) ⌝ }
     ensures { λ r. ⌜ quietly r ≡ outcomeOf plant (cpu-qconf (validIn extents) plant cpu queue base n) ⌝ }
 {
     if queue < 0x3c {
@@ -67,7 +68,7 @@ pub fn cpu_qconf(extents: Extents, plant: Plant, cpu: usize, queue: u64, base: u
 
 // 0x15: a queue's base and number of entries, both 0 if it is unset.
 pub fn cpu_qinfo(plant: Plant, cpu: usize, queue: u64) -> Answer
-    requires { ⌜ cpu < 8 ⌝ }
+    requires { ⌜ cpu < cpuLimit ⌝ }
     ensures { λ r. ⌜ saying plant r ≡ outcomeOf plant (cpu-qinfo plant cpu queue) ⌝ }
 {
     if queue < 0x3c {
@@ -130,7 +131,7 @@ fn head_moves(ring: Ring, value: u64) -> Moved
 
 // The head write: it moves the one field of one ring.
 pub fn write_head(plant: Plant, cpu: usize, queue: u64, value: u64) -> Done
-    requires { ⌜ (cpu < 8) × (queue ≤ 0x3f → PlacesSound (queueAt (cpuAt plant cpu) (queue - 0x3c))) ⌝ }
+    requires { ⌜ (cpu < cpuLimit) × (queue ≤ 0x3f → PlacesSound (queueAt (cpuAt plant cpu) (queue - 0x3c))) ⌝ }
     ensures { λ r. ⌜ quietly r ≡ outcomeOf plant (write-head plant cpu queue value) ⌝ }
 {
     if queue < 0x3c {

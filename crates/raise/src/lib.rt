@@ -9,6 +9,7 @@ use rules::Target;
 ghost use mathlib.Core.Path.{_≡_};
 ghost use Prim.Native.Nat.{_<_};
 ghost use lib.ListN.{length};
+ghost use Rattle.rules.specs.Limits.{sourceLimit};
 ghost use Rattle.rules.specs.Sources.{raiseAt};
 ghost use Rattle.records.specs.Sound.{Sound};
 ghost use Rattle.plants.specs.Follows.{Follows};
@@ -16,7 +17,7 @@ ghost use Rattle.raise.specs.Raised.{deviceWord, entryOf, becoming, deli
 
 // Word 0 of a source's entry: its cookie, or under 1.0 its sysino.
 fn device_word(plant: Plant, i: usize) -> u64
-    requires { ⌜ i < 16 ⌝ }
+    requires { ⌜ i < sourceLimit ⌝ }
     ensures { λ r. ⌜ r ≡ deviceWord plant i ⌝ }
 {
     if plant.versions.interrupt == 2 {
@@ -38,7 +39,7 @@ fn entry_of(word: u64) -> [u8; 64]
 
 // The state becomes what it is answered to be.
 fn becomes(plant: Plant, i: usize, state: u8) -> Done
-    requires { ⌜ i < 16 ⌝ }
+    requires { ⌜ i < sourceLimit ⌝ }
     ensures { λ r. ⌜ r ≡ becoming plant i state ⌝ }
 {
     let mut source = plant.source[i];
@@ -53,7 +54,7 @@ fn becomes(plant: Plant, i: usize, state: u8) -> Done
 // An entry for source i at the tail of a cpu's 0x3d ring, if it has room.
 fn deliver(extents: Extents, plant: Plant, mem: &mut [u8], i: usize, cpu: usize) -> Done
     requires { ⌜ Sound extents plant (length (now mem)) ⌝ }
-    requires { ⌜ (i < 16) × (cpu < plant .cpus) ⌝ }
+    requires { ⌜ (i < sourceLimit) × (cpu < plant .cpus) ⌝ }
     ensures { λ r. ⌜ Follows extents plant (delivering plant i cpu) (now (mem .entry)) r (now (mem .exit)) ⌝ }
 {
     let entry = entry_of(device_word(plant, i));

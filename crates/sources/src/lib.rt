@@ -12,6 +12,7 @@ ghost use mathlib.Core.Path.{_≡_};
 ghost use mathlib.Core.Bool.{_&&_};
 ghost use Prim.Native.Nat.{_≤_, _<_};
 ghost use lib.Dec.{eqb};
+ghost use Rattle.rules.specs.Limits.{sourceLimit};
 ghost use Rattle.rules.specs.Image.{named};
 ghost use Rattle.rules.specs.Kept.{withTarget};
 ghost use Rattle.rules.specs.Rulings.{outcomeOf};
@@ -29,7 +30,7 @@ fn is_named(s: Source, devhandle: u64, devino: u64) -> bool
 
 // The position in the guest's own list: what lies past its end is not looked at.
 pub fn sysino_of(plant: Plant, devhandle: u64, devino: u64) -> Found
-    requires { ⌜ plant .sources ≤ 16 ⌝ }
+    requires { ⌜ plant .sources ≤ sourceLimit ⌝ }
     ensures { λ r. ⌜ r ≡ sysinoOf plant devhandle devino ⌝ }
 {
     let count = plant.sources as usize;
@@ -46,7 +47,7 @@ pub fn sysino_of(plant: Plant, devhandle: u64, devino: u64) -> Found
 }
 
 fn get_enabled(plant: Plant, i: usize) -> Answer
-    requires { ⌜ i < 16 ⌝ }
+    requires { ⌜ i < sourceLimit ⌝ }
     ensures { λ r. ⌜ saying plant r ≡ outcomeOf plant (get-enabled plant i) ⌝ }
 {
     let s = plant.source[i];
@@ -54,7 +55,7 @@ fn get_enabled(plant: Plant, i: usize) -> Answer
 }
 
 fn get_state(plant: Plant, i: usize) -> Answer
-    requires { ⌜ i < 16 ⌝ }
+    requires { ⌜ i < sourceLimit ⌝ }
     ensures { λ r. ⌜ saying plant r ≡ outcomeOf plant (get-state plant i) ⌝ }
 {
     let s = plant.source[i];
@@ -62,7 +63,7 @@ fn get_state(plant: Plant, i: usize) -> Answer
 }
 
 fn get_cookie(plant: Plant, i: usize) -> Answer
-    requires { ⌜ i < 16 ⌝ }
+    requires { ⌜ i < sourceLimit ⌝ }
     ensures { λ r. ⌜ saying plant r ≡ outcomeOf plant (get-cookie plant i) ⌝ }
 {
     let s = plant.source[i];
@@ -80,7 +81,7 @@ fn target_number(target: Target) -> u64
 }
 
 fn get_target(plant: Plant, i: usize) -> Answer
-    requires { ⌜ i < 16 ⌝ }
+    requires { ⌜ i < sourceLimit ⌝ }
     ensures { λ r. ⌜ saying plant r ≡ outcomeOf plant (get-target plant i) ⌝ }
 {
     let s = plant.source[i];
@@ -102,7 +103,7 @@ fn lacks_cookie(version: u8, cookie: u64, value: u64) -> bool
 }
 
 fn set_enabled(plant: Plant, i: usize, value: u64) -> Done
-    requires { ⌜ i < 16 ⌝ }
+    requires { ⌜ i < sourceLimit ⌝ }
     ensures { λ r. ⌜ quietly r ≡ outcomeOf plant (set-enabled plant i value) ⌝ }
 {
     if 1 < value {
@@ -127,7 +128,7 @@ fn set_enabled(plant: Plant, i: usize, value: u64) -> Done
 }
 
 fn set_state(plant: Plant, i: usize, value: u64) -> Done
-    requires { ⌜ i < 16 ⌝ }
+    requires { ⌜ i < sourceLimit ⌝ }
     ensures { λ r. ⌜ quietly r ≡ outcomeOf plant (set-state plant i value) ⌝ }
 {
     if 2 < value {
@@ -161,7 +162,7 @@ fn with_target(s: Source, target: Target) -> Source
 
 // The cpu has to be one of the guest's own.
 fn set_target(plant: Plant, i: usize, value: u64) -> Done
-    requires { ⌜ i < 16 ⌝ }
+    requires { ⌜ i < sourceLimit ⌝ }
     ensures { λ r. ⌜ quietly r ≡ outcomeOf plant (set-target plant i value) ⌝ }
 {
     let cpus = plant.cpus as u64;
@@ -181,7 +182,7 @@ fn set_target(plant: Plant, i: usize, value: u64) -> Done
 
 // Cookie 0 disables; 1 to 2,047 are no cookies.
 fn set_cookie(plant: Plant, i: usize, value: u64) -> Done
-    requires { ⌜ i < 16 ⌝ }
+    requires { ⌜ i < sourceLimit ⌝ }
     ensures { λ r. ⌜ quietly r ≡ outcomeOf plant (set-cookie plant i value) ⌝ }
 {
     let mut s = plant.source[i];
@@ -209,7 +210,7 @@ fn set_cookie(plant: Plant, i: usize, value: u64) -> Done
 
 // 0xa0: the sysino of a source.
 pub fn intr_devino2sysino(plant: Plant, devhandle: u64, devino: u64) -> Answer
-    requires { ⌜ plant .sources ≤ 16 ⌝ }
+    requires { ⌜ plant .sources ≤ sourceLimit ⌝ }
     ensures { λ r. ⌜ saying plant r ≡ outcomeOf plant (intr-devino2sysino plant devhandle devino) ⌝ }
 {
     let found = sysino_of(plant, devhandle, devino);
@@ -221,7 +222,7 @@ pub fn intr_devino2sysino(plant: Plant, devhandle: u64, devino: u64) -> Answer
 
 // 0xa1 to 0xa6, by sysino.
 pub fn intr(plant: Plant, function: u64, sysino: u64, value: u64) -> Done
-    requires { ⌜ plant .sources ≤ 16 ⌝ }
+    requires { ⌜ plant .sources ≤ sourceLimit ⌝ }
     ensures { λ r. ⌜ quietly r ≡ outcomeOf plant (intr plant function sysino value) ⌝ }
 {
     let count = plant.sources as u64;
@@ -242,7 +243,7 @@ pub fn intr(plant: Plant, function: u64, sysino: u64, value: u64) -> Done
 
 // 0xa7 to 0xae, by devhandle and devino.
 pub fn vintr(plant: Plant, function: u64, devhandle: u64, devino: u64, value: u64) -> Done
-    requires { ⌜ plant .sources ≤ 16 ⌝ }
+    requires { ⌜ plant .sources ≤ sourceLimit ⌝ }
     ensures { λ r. ⌜ quietly r ≡ outcomeOf plant (vintr plant function devhandle devino value) ⌝ }
 {
     let found = sysino_of(plant, devhandle, devino);

@@ -9,6 +9,7 @@ use rules::Refusal;
 ghost use mathlib.Core.Path.{_≡_};
 ghost use Prim.Native.Nat.{_≤_, min};
 ghost use lib.ListN.{length};
+ghost use Rattle.rules.specs.Limits.{extentLimit};
 ghost use Rattle.rules.specs.Real.{valid, sightOf};
 ghost use Rattle.rules.specs.Rulings.{Ruling, Outcome, outcomeOf};
 ghost use Rattle.rules.specs.Memory.{wholePages, wholeWord, mem-scrub, mem-sync, store-word, load-word};
@@ -25,7 +26,7 @@ const SCRUB: u64 = 32768;
 
 // What scrub and sync ask of a range.
 fn judge_pages(extents: Extents, address: u64, size: u64) -> Verdict
-    requires { ⌜ extents .count ≤ 4 ⌝ }
+    requires { ⌜ extents .count ≤ extentLimit ⌝ }
     ensures { λ r. ⌜ ((rest : Ruling Outcome) → wholePages (valid (present extents)) address size rest ≡ judged r rest) ⌝ }
 {
     if size == 0 {
@@ -45,7 +46,7 @@ fn judge_pages(extents: Extents, address: u64, size: u64) -> Verdict
 
 // What store and load ask of an address.
 fn judge_word(extents: Extents, address: u64) -> Verdict
-    requires { ⌜ extents .count ≤ 4 ⌝ }
+    requires { ⌜ extents .count ≤ extentLimit ⌝ }
     ensures { λ r. ⌜ ((rest : Ruling Outcome) → wholeWord (valid (present extents)) address rest ≡ judged r rest) ⌝ }
 {
     if address % 8 != 0 {
@@ -88,7 +89,7 @@ pub fn mem_scrub(extents: Extents, plant: Plant, mem: &mut [u8], address: u64, s
 
 // 0x32: nothing is kept back, so all of a range of pages is there at once.
 pub fn mem_sync(extents: Extents, plant: Plant, address: u64, size: u64) -> Done
-    requires { ⌜ extents .count ≤ 4 ⌝ }
+    requires { ⌜ extents .count ≤ extentLimit ⌝ }
     ensures { λ r. ⌜ quietly r ≡ outcomeOf plant (mem-sync (valid (present extents)) plant address size) ⌝ }
 {
     let verdict = judge_pages(extents, address, size);
