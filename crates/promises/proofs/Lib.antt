@@ -2,6 +2,7 @@ pub mod AcceptedEvents
 pub mod Alone
 pub mod AloneSteps
 pub mod Determined
+pub mod DeterminedCalls
 pub mod DeterminedInside
 pub mod Elsewhere
 pub mod Examples

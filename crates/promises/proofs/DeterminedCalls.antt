@@ -1,0 +1,141 @@
+-- Promise: no second outcome, of the calls and of what they share, which the crates below `calls` give it and each other. As in
+-- Determined.
+use mathlib.Core.Path.{_≡_, sym, _∙_}
+use mathlib.Core.List.{List}
+use Prim.Native.Nat.{ℕ}
+use denote.Ref.{now}
+use Rattle.rules.specs.declared.Answer.{Answer}
+use Rattle.rules.specs.declared.Extents.{Extents}
+use Rattle.rules.specs.declared.Plant.{Plant}
+use Rattle.rules.specs.Kept.{hollowGuest}
+use Rattle.rules.specs.Rulings.{Ruling, Outcome}
+use Rattle.plants.specs.declared.Done.{Done}
+use Rattle.plants.specs.Done.{quietly, saying}
+use Rattle.plants.specs.Follows.{Follows}
+use Rattle.plants.proofs.queue_at.Reads as queue-at-reads
+use Rattle.plants.proofs.with_queue.Reads as with-queue-reads
+use Rattle.plants.proofs.with_statistics.Reads as with-statistics-reads
+use Rattle.plants.proofs.with_source.Reads as with-source-reads
+use Rattle.plants.proofs.with_ctx0.Reads as with-ctx0-reads
+use Rattle.plants.proofs.with_ctxnon0.Reads as with-ctxnon0-reads
+use Rattle.plants.proofs.told.Reads as told-reads
+use Rattle.plants.proofs.put_entry.Reads as put-entry-reads
+use Rattle.versions.proofs.set_version.Reads as set-version-reads
+use Rattle.versions.proofs.get_version.Reads as get-version-reads
+use Rattle.queues.proofs.cpu_qconf.Reads as cpu-qconf-reads
+use Rattle.queues.proofs.write_head.Reads as write-head-reads
+use Rattle.queues.proofs.cpu_qinfo.Reads as cpu-qinfo-reads
+use Rattle.queues.proofs.cpu_myid.Reads as cpu-myid-reads
+use Rattle.mondo.proofs.cpu_mondo_send.Reads as cpu-mondo-send-reads
+use Rattle.mmu.proofs.mmustat_conf.Reads as mmustat-conf-reads
+use Rattle.mmu.proofs.mmustat_info.Reads as mmustat-info-reads
+use Rattle.mmu.proofs.mmu_tsb_ctx0.Reads as mmu-tsb-ctx0-reads
+use Rattle.mmu.proofs.mmu_tsb_ctxnon0.Reads as mmu-tsb-ctxnon0-reads
+use Rattle.words.proofs.mem_sync.Reads as mem-sync-reads
+use Rattle.words.proofs.mem_scrub.Reads as mem-scrub-reads
+use Rattle.words.proofs.store_word.Reads as store-word-reads
+use Rattle.words.proofs.load_word.Reads as load-word-reads
+use Rattle.sources.proofs.intr.Reads as intr-reads
+use Rattle.sources.proofs.vintr.Reads as vintr-reads
+use Rattle.sources.proofs.intr_devino2sysino.Reads as intr-devino2sysino-reads
+use Rattle.raise.proofs.raise_at.Reads as raise-at-reads
+
+-- what gives one outcome is one: an answer and a record, an answer alone, or both and the memory after
+one-done : (o : Outcome) (r s : Done) → quietly r ≡ o → quietly s ≡ o → r ≡ s
+one-done o r s p q = λ i. record { answer = (p ∙ sym q) i .answer; plant = (p ∙ sym q) i .plant }
+
+one-answer : (plant : Plant) (o : Outcome) (r s : Answer) → saying plant r ≡ o → saying plant s ≡ o → r ≡ s
+one-answer plant o r s p q = λ i. (p ∙ sym q) i .answer
+
+one-following : (e : Extents) (plant : Plant) (x : Ruling Outcome) (before : List ℕ) (r s : Done) (m n : List ℕ) → Follows e plant x before r m → Follows e plant x before s n → (r ≡ s) × (m ≡ n)
+one-following e plant x before r s m n p q =
+    ((λ i. record { answer = (p .answer ∙ sym (q .answer)) i; plant = (p .plant ∙ sym (q .plant)) i }), p .memory ∙ sym (q .memory))
+
+-- plants: what the calls share: a part of the record, and an entry in a ring
+pub queue-at-determined : (κs : _) (a : _) (r s : _) (ws vs : _) → queue-at-reads.Post κs a r ws → queue-at-reads.Post κs a s vs → r ≡ s
+queue-at-determined κs a r s ws vs p q = p ∙ sym q
+
+pub with-queue-determined : (κs : _) (a : _) (r s : _) (ws vs : _) → with-queue-reads.Post κs a r ws → with-queue-reads.Post κs a s vs → r ≡ s
+with-queue-determined κs a r s ws vs p q = p ∙ sym q
+
+pub with-statistics-determined : (κs : _) (a : _) (r s : _) (ws vs : _) → with-statistics-reads.Post κs a r ws → with-statistics-reads.Post κs a s vs → r ≡ s
+with-statistics-determined κs a r s ws vs p q = p ∙ sym q
+
+pub with-source-determined : (κs : _) (a : _) (r s : _) (ws vs : _) → with-source-reads.Post κs a r ws → with-source-reads.Post κs a s vs → r ≡ s
+with-source-determined κs a r s ws vs p q = p ∙ sym q
+
+pub with-ctx0-determined : (κs : _) (a : _) (r s : _) (ws vs : _) → with-ctx0-reads.Post κs a r ws → with-ctx0-reads.Post κs a s vs → r ≡ s
+with-ctx0-determined κs a r s ws vs p q = p ∙ sym q
+
+pub with-ctxnon0-determined : (κs : _) (a : _) (r s : _) (ws vs : _) → with-ctxnon0-reads.Post κs a r ws → with-ctxnon0-reads.Post κs a s vs → r ≡ s
+with-ctxnon0-determined κs a r s ws vs p q = p ∙ sym q
+
+pub told-determined : (κs : _) (a : _) (r s : _) (ws vs : _) → told-reads.Post κs a r ws → told-reads.Post κs a s vs → r ≡ s
+told-determined κs a r s ws vs p q = one-done _ r s p q
+
+pub put-entry-determined : (κs : _) (a : _) (r s : _) (ws vs : _) → put-entry-reads.Post κs a r ws → put-entry-reads.Post κs a s vs → (r ≡ s) × (now (ws .1 .1 .0) ≡ now (vs .1 .1 .0))
+put-entry-determined κs a r s ws vs p q = ((λ i. record { plant = (p .plant ∙ sym (q .plant)) i; all = (p .all ∙ sym (q .all)) i }), p .memory ∙ sym (q .memory))
+
+-- versions: set version and get version
+pub set-version-determined : (κs : _) (a : _) (r s : _) (ws vs : _) → set-version-reads.Post κs a r ws → set-version-reads.Post κs a s vs → r ≡ s
+set-version-determined κs a r s ws vs p q = one-done _ r s p q
+
+pub get-version-determined : (κs : _) (a : _) (r s : _) (ws vs : _) → get-version-reads.Post κs a r ws → get-version-reads.Post κs a s vs → r ≡ s
+get-version-determined κs a r s ws vs p q = one-answer _ _ r s p q
+
+-- queues: 0x14, 0x15, 0x16 and the head write
+pub cpu-qconf-determined : (κs : _) (a : _) (r s : _) (ws vs : _) → cpu-qconf-reads.Post κs a r ws → cpu-qconf-reads.Post κs a s vs → r ≡ s
+cpu-qconf-determined κs a r s ws vs p q = one-done _ r s p q
+
+pub write-head-determined : (κs : _) (a : _) (r s : _) (ws vs : _) → write-head-reads.Post κs a r ws → write-head-reads.Post κs a s vs → r ≡ s
+write-head-determined κs a r s ws vs p q = one-done _ r s p q
+
+pub cpu-qinfo-determined : (κs : _) (a : _) (r s : _) (ws vs : _) → cpu-qinfo-reads.Post κs a r ws → cpu-qinfo-reads.Post κs a s vs → r ≡ s
+cpu-qinfo-determined κs a r s ws vs p q = one-answer _ _ r s p q
+
+pub cpu-myid-determined : (κs : _) (a : _) (r s : _) (ws vs : _) → cpu-myid-reads.Post κs a r ws → cpu-myid-reads.Post κs a s vs → r ≡ s
+cpu-myid-determined κs a r s ws vs p q = one-answer (hollowGuest .plant) _ r s (p (hollowGuest .plant)) (q (hollowGuest .plant))
+
+-- mondo: 0x42
+pub cpu-mondo-send-determined : (κs : _) (a : _) (r s : _) (ws vs : _) → cpu-mondo-send-reads.Post κs a r ws → cpu-mondo-send-reads.Post κs a s vs → (r ≡ s) × (now (ws .1 .1 .0) ≡ now (vs .1 .1 .0))
+cpu-mondo-send-determined κs a r s ws vs p q = one-following _ _ _ _ r s _ _ p q
+
+-- mmu: 0x20, 0x21, 0x102 and 0x103
+pub mmustat-conf-determined : (κs : _) (a : _) (r s : _) (ws vs : _) → mmustat-conf-reads.Post κs a r ws → mmustat-conf-reads.Post κs a s vs → r ≡ s
+mmustat-conf-determined κs a r s ws vs p q = one-done _ r s p q
+
+pub mmustat-info-determined : (κs : _) (a : _) (r s : _) (ws vs : _) → mmustat-info-reads.Post κs a r ws → mmustat-info-reads.Post κs a s vs → r ≡ s
+mmustat-info-determined κs a r s ws vs p q = one-answer _ _ r s p q
+
+pub mmu-tsb-ctx0-determined : (κs : _) (a : _) (r s : _) (ws vs : _) → mmu-tsb-ctx0-reads.Post κs a r ws → mmu-tsb-ctx0-reads.Post κs a s vs → r ≡ s
+mmu-tsb-ctx0-determined κs a r s ws vs p q = one-following _ _ _ _ r s _ _ p q .0
+
+pub mmu-tsb-ctxnon0-determined : (κs : _) (a : _) (r s : _) (ws vs : _) → mmu-tsb-ctxnon0-reads.Post κs a r ws → mmu-tsb-ctxnon0-reads.Post κs a s vs → r ≡ s
+mmu-tsb-ctxnon0-determined κs a r s ws vs p q = one-following _ _ _ _ r s _ _ p q .0
+
+-- words: 0x31, 0x32, store and load
+pub mem-sync-determined : (κs : _) (a : _) (r s : _) (ws vs : _) → mem-sync-reads.Post κs a r ws → mem-sync-reads.Post κs a s vs → r ≡ s
+mem-sync-determined κs a r s ws vs p q = one-done _ r s p q
+
+pub mem-scrub-determined : (κs : _) (a : _) (r s : _) (ws vs : _) → mem-scrub-reads.Post κs a r ws → mem-scrub-reads.Post κs a s vs → (r ≡ s) × (now (ws .1 .1 .0) ≡ now (vs .1 .1 .0))
+mem-scrub-determined κs a r s ws vs p q = one-following _ _ _ _ r s _ _ p q
+
+pub store-word-determined : (κs : _) (a : _) (r s : _) (ws vs : _) → store-word-reads.Post κs a r ws → store-word-reads.Post κs a s vs → (r ≡ s) × (now (ws .1 .1 .0) ≡ now (vs .1 .1 .0))
+store-word-determined κs a r s ws vs p q = one-following _ _ _ _ r s _ _ p q
+
+pub load-word-determined : (κs : _) (a : _) (r s : _) (ws vs : _) → load-word-reads.Post κs a r ws → load-word-reads.Post κs a s vs → r ≡ s
+load-word-determined κs a r s ws vs p q = one-following _ _ _ _ r s _ _ p q .0
+
+-- sources: 0xa0 to 0xae
+pub intr-determined : (κs : _) (a : _) (r s : _) (ws vs : _) → intr-reads.Post κs a r ws → intr-reads.Post κs a s vs → r ≡ s
+intr-determined κs a r s ws vs p q = one-done _ r s p q
+
+pub vintr-determined : (κs : _) (a : _) (r s : _) (ws vs : _) → vintr-reads.Post κs a r ws → vintr-reads.Post κs a s vs → r ≡ s
+vintr-determined κs a r s ws vs p q = one-done _ r s p q
+
+pub intr-devino2sysino-determined : (κs : _) (a : _) (r s : _) (ws vs : _) → intr-devino2sysino-reads.Post κs a r ws → intr-devino2sysino-reads.Post κs a s vs → r ≡ s
+intr-devino2sysino-determined κs a r s ws vs p q = one-answer _ _ r s p q
+
+-- raise: raise
+pub raise-at-determined : (κs : _) (a : _) (r s : _) (ws vs : _) → raise-at-reads.Post κs a r ws → raise-at-reads.Post κs a s vs → (r ≡ s) × (now (ws .1 .1 .0) ≡ now (vs .1 .1 .0))
+raise-at-determined κs a r s ws vs p q = one-following _ _ _ _ r s _ _ p q
