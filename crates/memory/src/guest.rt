@@ -1,9 +1,9 @@
 // A guest's memory by real address: each range is valid, so it is one run of host bytes.
 use crate::extents::start;
-use crate::host::copy64;
-use crate::host::number;
-use crate::host::write;
-use crate::host::zero;
+use crate::runs::copy64;
+use crate::runs::number;
+use crate::runs::write;
+use crate::runs::zero;
 use rules::Extents;
 use rules::Real;
 ghost use mathlib.Core.Path.{_≡_};

@@ -2,7 +2,7 @@
 // written there.
 mod extents;
 mod guest;
-mod host;
+mod runs;
 
 pub use extents::inside;
 pub use extents::locate;
@@ -14,10 +14,10 @@ pub use guest::number4;
 pub use guest::number8;
 pub use guest::write_at;
 pub use guest::zero_at;
-pub use host::copy64;
-pub use host::read_half;
-pub use host::read_u32;
-pub use host::read_word;
-pub use host::word_bytes;
-pub use host::write;
-pub use host::zero;
+pub use runs::copy64;
+pub use runs::read_half;
+pub use runs::read_u32;
+pub use runs::read_word;
+pub use runs::word_bytes;
+pub use runs::write;
+pub use runs::zero;

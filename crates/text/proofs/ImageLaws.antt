@@ -13,8 +13,8 @@ use lib.Seq.{sets, drop-cons}
 use borrow.Author.Tests.{eq-eqb, ne-eqb}
 use Rattle.rules.specs.Rulings.{if_then_else_}
 use Rattle.rules.specs.Text.{space, digitOf, digits, consed, byteOf, paired, pairedOr}
-use Rattle.text.specs.declared.image.Size.{Size}
-use Rattle.text.specs.declared.image.Size.the-variants.{Bad, Bytes}
+use Rattle.text.specs.declared.digits.Size.{Size}
+use Rattle.text.specs.declared.digits.Size.the-variants.{Bad, Bytes}
 use Rattle.text.specs.Pieces.{unspaced, imageAt, digitOr, sizeOr}
 use Rattle.text.proofs.Stores.{sets-append}
 use Rattle.text.proofs.NumberLaws.{tells-none, tells-some}

@@ -14,7 +14,7 @@ use Rattle.rules.specs.Rulings.{if_then_else_}
 use Rattle.rules.specs.declared.Event.{Event}
 use Rattle.rules.specs.Text.{Line, bad, image, event, imageWord, callWord, headWord, raiseWord, loadWord, storeWord, same, callOf, headOf, deviceOf, loadOf, storeOf, fields, imageOr, eventOr, eventLine, lineOf, pieces, parse}
 use Rattle.text.specs.declared.line.Line.{Line as Told}
-use Rattle.text.specs.declared.image.Size.{Size}
+use Rattle.text.specs.declared.digits.Size.{Size}
 use Rattle.text.specs.Pieces.{firstLength, behind, imageAt, sizeOr}
 use Rattle.text.specs.Lines.{told, isImage, imageOf}
 use Rattle.text.proofs.PieceLaws.{pieces-split, joined-behind}

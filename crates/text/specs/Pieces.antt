@@ -7,7 +7,7 @@ use lib.ListN.{length}
 use Rattle.rules.specs.Rulings.{if_then_else_}
 use Rattle.rules.specs.Text.{space, pieces, digits, pairedOr}
 use Rattle.text.specs.declared.number.Number.{Number}
-use Rattle.text.specs.declared.image.Size.{Size}
+use Rattle.text.specs.declared.digits.Size.{Size}
 
 -- the length of the first piece
 unfoldable pub firstLength : List ℕ → ℕ

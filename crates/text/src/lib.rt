@@ -1,7 +1,7 @@
 // The session program's text, on slices: a line's bytes in, an answer's bytes out.
+mod digits;
 mod event;
 mod fields;
-mod image;
 mod line;
 mod number;
 mod piece;

@@ -1,4 +1,4 @@
--- `image::read_image` meets its contract. The invariant: the first n bytes of out, the digit that waits and the text from i on make the
+-- `digits::read_image` meets its contract. The invariant: the first n bytes of out, the digit that waits and the text from i on make the
 -- image; behind the first n bytes out is as it was. Each byte takes two digits, so that there is room.
 use native.Mathlib.Omega.{arith}
 use borrow.Author.Needs.{needs}
@@ -6,8 +6,8 @@ use Prim.Native.Nat.{_+_, _-_, _*_, _/_, _≤_}
 use lib.ListN.{length}
 use Rattle.text.proofs.ImageLaws.{Reading, reading-start, reading-space, reading-bad, reading-waits, reading-byte, reading-odd, reading-even}
 use Rattle.text.proofs.NumberLaws.{tells-some}
-use Rattle.text.proofs.image.read_image.Statement.{statement}
-use Rattle.text.proofs.image.read_image.Tie as tie
+use Rattle.text.proofs.digits.read_image.Statement.{statement}
+use Rattle.text.proofs.digits.read_image.Tie as tie
 
 abbrev Inv-loop : tie.InvT-loop
 Inv-loop s from out₀ n₀ high₀ i₀ out n high i =

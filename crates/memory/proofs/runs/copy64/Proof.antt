@@ -7,8 +7,8 @@ use lib.Seq.{sets}
 use Rattle.rules.specs.Real.{bytesFrom}
 use Rattle.memory.specs.Cells.{cell}
 use Rattle.memory.proofs.Stores.{read-more, read-whole}
-use Rattle.memory.proofs.host.copy64.Statement.{statement}
-use Rattle.memory.proofs.host.copy64.Tie as tie
+use Rattle.memory.proofs.runs.copy64.Statement.{statement}
+use Rattle.memory.proofs.runs.copy64.Tie as tie
 
 abbrev Inv-loop : tie.InvT-loop
 Inv-loop mem at out₀ i₀ out i = (i ≤ 64) × (out ≡ sets (replicate 64 0) 0 (bytesFrom (cell mem) at i))

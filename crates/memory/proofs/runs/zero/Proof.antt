@@ -5,8 +5,8 @@ use native.Mathlib.Omega.{arith}
 use lib.ListN.{length, replicate, length-set}
 use lib.Seq.{sets}
 use Rattle.memory.proofs.Stores.{fill-more}
-use Rattle.memory.proofs.host.zero.Statement.{statement}
-use Rattle.memory.proofs.host.zero.Tie as tie
+use Rattle.memory.proofs.runs.zero.Statement.{statement}
+use Rattle.memory.proofs.runs.zero.Tie as tie
 
 abbrev Inv-loop : tie.InvT-loop
 Inv-loop mem₀ at n i₀ mem i = (i ≤ n) × (mem ≡ sets mem₀ at (replicate i 0)) × (length mem ≡ length mem₀)

@@ -5,8 +5,8 @@ use native.Mathlib.Omega.{arith}
 use lib.ListN.{length, take, length-set}
 use lib.Seq.{sets, take-length}
 use Rattle.memory.proofs.Stores.{copy-more}
-use Rattle.memory.proofs.host.write.Statement.{statement}
-use Rattle.memory.proofs.host.write.Tie as tie
+use Rattle.memory.proofs.runs.write.Statement.{statement}
+use Rattle.memory.proofs.runs.write.Tie as tie
 
 abbrev Inv-loop : tie.InvT-loop
 Inv-loop mem₀ at src i₀ mem i = (i ≤ length src) × (mem ≡ sets mem₀ at (take i src)) × (length mem ≡ length mem₀)

@@ -6,8 +6,8 @@ use borrow.Author.Needs.{needs}
 use Rattle.rules.specs.Real.{numberOf}
 use Rattle.memory.specs.Cells.{cell}
 use Rattle.memory.proofs.Numbers.{number-more, number-below, number-room, number-end}
-use Rattle.memory.proofs.host.number.Statement.{statement}
-use Rattle.memory.proofs.host.number.Tie as tie
+use Rattle.memory.proofs.runs.number.Statement.{statement}
+use Rattle.memory.proofs.runs.number.Tie as tie
 
 abbrev Inv-loop : tie.InvT-loop
 Inv-loop mem at k v₀ i₀ v i = (i ≤ k) × (v ≡ numberOf (cell mem) at i) × (v < 256 ^ i)

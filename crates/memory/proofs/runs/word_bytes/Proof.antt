@@ -2,8 +2,8 @@
 use borrow.Author.Needs.{needs}
 use mathlib.Core.Path.{refl}
 use Rattle.rules.specs.Real.{wordBytes}
-use Rattle.memory.proofs.host.word_bytes.Statement.{statement}
-use Rattle.memory.proofs.host.word_bytes.Tie as tie
+use Rattle.memory.proofs.runs.word_bytes.Statement.{statement}
+use Rattle.memory.proofs.runs.word_bytes.Tie as tie
 
 cast-t4 : tie.Need-cast-t4
 cast-t4 c = search needs
