@@ -1,7 +1,7 @@
 -- From what each call gives to what the rule of its function says.
-use mathlib.Core.Path.{_≡_, refl, sym, ap, _∙_}
+use mathlib.Core.Path.{_≡_, refl, sym, _∙_}
 use mathlib.Core.Bool.{true, false}
-use mathlib.Core.List.{List, []}
+use mathlib.Core.List.{List}
 use Prim.Native.Nat.{ℕ}
 use native.Mathlib.Omega.{arith}
 use lib.Dec.{leb, eqb}
@@ -15,11 +15,10 @@ use Rattle.rules.specs.declared.Plant.{Plant}
 use Rattle.rules.specs.declared.Refusal.{Refusal}
 use Rattle.rules.specs.declared.Refusal.the-variants.{EBADTRAP, ENOTSUPPORTED}
 use Rattle.rules.specs.declared.Versions.{Versions}
-use Rattle.rules.specs.Real.{Sight, apply}
-use Rattle.rules.specs.Rulings.{Ruling, refused, granted, Outcome, outcomeOf, _or-refuse_then_, _grants_}
+use Rattle.rules.specs.Real.{Sight}
+use Rattle.rules.specs.Rulings.{refused, granted, outcomeOf, _or-refuse_then_, _grants_}
 use Rattle.rules.specs.Sources.{intr-devino2sysino, intr}
 use Rattle.rules.specs.Calls.{functionOf, negotiatedAs, admitted, perform, call}
-use Rattle.memory.specs.Ready.{present}
 use Rattle.records.specs.declared.Verdict.{Verdict}
 use Rattle.records.specs.declared.Verdict.the-variants.{Right, Refused as Told}
 use Rattle.records.specs.Verdict.{verdictOf}
@@ -27,20 +26,8 @@ use Rattle.records.proofs.Told.{told-refused, told-then}
 use Rattle.plants.specs.declared.Done.{Done}
 use Rattle.plants.specs.Done.{quietly, saying}
 use Rattle.plants.specs.Follows.{Follows}
+use Rattle.plants.proofs.OutcomeLaws.{quiet}
 use Rattle.calls.specs.Dispatch.{sysinoRule}
-
--- a call that writes nothing leaves the memory as it was
-module _ (extents : Extents) (plant : Plant) (x : Ruling Outcome) (m : List ℕ) (d : Done) where
-  pub quiet : quietly d ≡ outcomeOf plant x → Follows extents plant x m d m
-  unfolding apply
-  quiet e = record {
-    answer = ap (λ (o : Outcome). o .answer) e;
-    plant = ap (λ (o : Outcome). o .plant) e;
-    memory = ap (λ (o : Outcome). apply (present extents) m (o .writes)) e;
-  }
-
-  pub quiet-told : (a : Answer) → quietly d ≡ saying plant a → saying plant a ≡ outcomeOf plant x → Follows extents plant x m d m
-  quiet-told a p q = quiet (p ∙ q)
 
 -- a refusal is not right
 never-right : (r : Refusal) → verdictOf {A = Function} (refused r) ≡ Right → ⊥

@@ -27,7 +27,7 @@ use Rattle.plants.specs.declared.Done.{Done}
 use Rattle.plants.specs.Done.{quietly, saying}
 use Rattle.plants.specs.Follows.{Follows}
 use Rattle.queues.specs.Rings.{PlacesSound}
-use Rattle.calls.proofs.DispatchLaws.{quiet}
+use Rattle.plants.proofs.OutcomeLaws.{quiet}
 
 -- a ring that is sound holds its head and its tail
 places-sound : (v : ℕ → ℕ → _) (held : QueueRecord) → RecordSound v held → PlacesSound held

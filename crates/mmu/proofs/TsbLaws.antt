@@ -18,8 +18,8 @@ use Rattle.rules.specs.declared.Refusal.the-variants.{EINVAL, EBADALIGN, ENORAD
 use Rattle.rules.specs.declared.Tsb.{Tsb}
 use Rattle.rules.specs.declared.TsbList.{TsbList}
 use Rattle.rules.specs.Kept.{blankTsbs, withCtx0, withCtxnon0}
-use Rattle.rules.specs.Real.{Sight, sightOf, numberOf, apply}
-use Rattle.rules.specs.Rulings.{Ruling, refused, granted, _grants_, done}
+use Rattle.rules.specs.Real.{Sight, sightOf, numberOf}
+use Rattle.rules.specs.Rulings.{refused, granted, _grants_, done, outcomeOf}
 use Rattle.rules.specs.Queues.{powerFrom}
 use Rattle.rules.specs.Tsb.{descriptorAt, isPageIndex, insideMask, isLowest, judgedTsb, descriptors, newTsbs, mmu-tsb-ctx0, mmu-tsb-ctxnon0}
 use Rattle.memory.specs.Ready.{present}
@@ -28,7 +28,10 @@ use Rattle.records.specs.declared.Verdict.the-variants.{Right, Refused as Told}
 use Rattle.records.specs.Verdict.{verdictOf, isRight}
 use Rattle.records.proofs.Told.{told-refused, told-then}
 use Rattle.mmu.specs.declared.tsb.NewTsbs.{NewTsbs}
+use Rattle.plants.specs.declared.Done.{Done as Gave}
+use Rattle.plants.specs.Done.{quietly, saying}
 use Rattle.plants.specs.Follows.{Follows}
+use Rattle.plants.proofs.OutcomeLaws.{quiet}
 use Rattle.plants.specs.Judged.{judged}
 use Rattle.mmu.specs.Lists.{listed}
 
@@ -139,29 +142,25 @@ module _ (s : Sight) (ntsb pointer : ℕ) (r : NewTsbs) where
         unfolding newTsbs listed
         tsbs-listed e d = rw (ne-eqb ntsb 0 z, le-leb ntsb 4 h, eq-eqb (pointer % 8) 0 a, ← p, not-false b e) d
 
--- 0x20 and 0x21: w puts the list into the plant's record
-module _ (extents : Extents) (plant : Plant) (m : List ℕ) (w : TsbList → Plant) (ruling : Ruling TsbList) (r : NewTsbs) (f : ruling ≡ judged (r .verdict) (granted (r .tsbs))) where
-  set-refused : (x : Refusal) → r .verdict ≡ Told x → Follows extents plant (ruling grants λ tsbs. done (w tsbs)) m (record { answer = Refused x; plant = plant }) m
-  unfolding judged apply
-  set-refused x e = rw (f, e) (record { answer = refl; plant = refl; memory = refl })
+-- 0x20 and 0x21: what is refused is refused, and what is granted is put into the plant's record by w
+pub settled-refused : (plant next : Plant) (v : Verdict) (x : Refusal) → v ≡ Told x → saying plant (Refused x) ≡ outcomeOf plant (judged v (done next))
+unfolding judged
+settled-refused plant next v x e = rw e
 
-  set-done : (next : Plant) → r .verdict ≡ Right → next ≡ w (r .tsbs) → Follows extents plant (ruling grants λ tsbs. done (w tsbs)) m (record { answer = Done; plant = next }) m
-  unfolding judged apply
-  set-done next e u = rw (f, e, u) (record { answer = refl; plant = refl; memory = refl })
+pub settled-right : (plant next : Plant) (v : Verdict) → v ≡ Right → saying next Done ≡ outcomeOf plant (judged v (done next))
+unfolding judged
+settled-right plant next v e = rw e
 
-module _ (extents : Extents) (plant : Plant) (m : List ℕ) (cpu ntsb pointer : ℕ) (r : NewTsbs) (f : newTsbs (sightOf (present extents) m) ntsb pointer ≡ judged (r .verdict) (granted (r .tsbs))) where
-  pub ctx0-refused : (x : Refusal) → r .verdict ≡ Told x → Follows extents plant (mmu-tsb-ctx0 (sightOf (present extents) m) plant cpu ntsb pointer) m (record { answer = Refused x; plant = plant }) m
+module _ (extents : Extents) (plant : Plant) (m : List ℕ) (cpu ntsb pointer : ℕ) (r : NewTsbs) (f : newTsbs (sightOf (present extents) m) ntsb pointer ≡ judged (r .verdict) (granted (r .tsbs))) (next : Plant) (d : Gave) (g : quietly d ≡ outcomeOf plant (judged (r .verdict) (done next))) where
+  granted-on : (w : TsbList → Plant) (v : Verdict) → next ≡ w (r .tsbs) → (judged v (granted (r .tsbs)) grants λ tsbs. done (w tsbs)) ≡ judged v (done next)
+  unfolding judged
+  granted-on w Right e = rw e
+  granted-on w (Told x) e = refl
+
+  pub ctx0-set : next ≡ withCtx0 plant cpu (r .tsbs) → Follows extents plant (mmu-tsb-ctx0 (sightOf (present extents) m) plant cpu ntsb pointer) m d m
   unfolding mmu-tsb-ctx0
-  ctx0-refused x e = set-refused extents plant m (withCtx0 plant cpu) _ r f x e
+  ctx0-set e = quiet extents plant _ m d (g ∙ rw (f, granted-on (withCtx0 plant cpu) (r .verdict) e))
 
-  pub ctx0-done : (next : Plant) → r .verdict ≡ Right → next ≡ withCtx0 plant cpu (r .tsbs) → Follows extents plant (mmu-tsb-ctx0 (sightOf (present extents) m) plant cpu ntsb pointer) m (record { answer = Done; plant = next }) m
-  unfolding mmu-tsb-ctx0
-  ctx0-done next e u = set-done extents plant m (withCtx0 plant cpu) _ r f next e u
-
-  pub ctxnon0-refused : (x : Refusal) → r .verdict ≡ Told x → Follows extents plant (mmu-tsb-ctxnon0 (sightOf (present extents) m) plant cpu ntsb pointer) m (record { answer = Refused x; plant = plant }) m
+  pub ctxnon0-set : next ≡ withCtxnon0 plant cpu (r .tsbs) → Follows extents plant (mmu-tsb-ctxnon0 (sightOf (present extents) m) plant cpu ntsb pointer) m d m
   unfolding mmu-tsb-ctxnon0
-  ctxnon0-refused x e = set-refused extents plant m (withCtxnon0 plant cpu) _ r f x e
-
-  pub ctxnon0-done : (next : Plant) → r .verdict ≡ Right → next ≡ withCtxnon0 plant cpu (r .tsbs) → Follows extents plant (mmu-tsb-ctxnon0 (sightOf (present extents) m) plant cpu ntsb pointer) m (record { answer = Done; plant = next }) m
-  unfolding mmu-tsb-ctxnon0
-  ctxnon0-done next e u = set-done extents plant m (withCtxnon0 plant cpu) _ r f next e u
+  ctxnon0-set e = quiet extents plant _ m d (g ∙ rw (f, granted-on (withCtxnon0 plant cpu) (r .verdict) e))

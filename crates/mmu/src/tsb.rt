@@ -18,10 +18,11 @@ ghost use lib.ListN.{length};
 ghost use Rattle.rules.specs.Limits.{extentLimit, tsbLimit};
 ghost use Rattle.rules.specs.Kept.{blankTsbs};
 ghost use Rattle.rules.specs.Real.{valid, byteAt, sightOf};
-ghost use Rattle.rules.specs.Rulings.{granted};
+ghost use Rattle.rules.specs.Rulings.{granted, done, outcomeOf};
 ghost use Rattle.rules.specs.Tsb.{descriptorAt, newTsbs, mmu-tsb-ctx0, mmu-tsb-ctxnon0};
 ghost use Rattle.memory.specs.Ready.{present, Ready};
 ghost use Rattle.records.specs.Sound.{Sound};
+ghost use Rattle.plants.specs.Done.{quietly};
 ghost use Rattle.plants.specs.Follows.{Follows};
 ghost use Rattle.plants.specs.Judged.{judged};
 ghost use Rattle.mmu.specs.Lists.{listed};
@@ -120,6 +121,22 @@ fn new_tsbs(extents: Extents, mem: &[u8], ntsb: u64, pointer: u64) -> NewTsbs
     read_tsbs(extents, mem, ntsb as u8, pointer)
 }
 
+// What 0x20 and 0x21 come to: next, which has the list, or the record as it was, where the list is refused.
+fn settled(plant: Plant, verdict: Verdict, next: Plant) -> Done
+    ensures { λ r. ⌜ quietly r ≡ outcomeOf plant (judged verdict (done next)) ⌝ }
+{
+    match verdict {
+        Verdict::Refused(r) => Done {
+            answer: Answer::Refused(r),
+            plant,
+        },
+        Verdict::Right => Done {
+            answer: Answer::Done,
+            plant: next,
+        },
+    }
+}
+
 // 0x20: the list for context 0.
 pub fn mmu_tsb_ctx0(
     extents: Extents,
@@ -135,20 +152,9 @@ pub fn mmu_tsb_ctx0(
 {
     let new = new_tsbs(extents, mem, ntsb, pointer);
     let verdict = new.verdict;
-    match verdict {
-        Verdict::Refused(r) => Done {
-            answer: Answer::Refused(r),
-            plant,
-        },
-        Verdict::Right => {
-            let tsbs = new.tsbs;
-            let next = with_ctx0(plant, cpu, tsbs);
-            Done {
-                answer: Answer::Done,
-                plant: next,
-            }
-        }
-    }
+    let tsbs = new.tsbs;
+    let next = with_ctx0(plant, cpu, tsbs);
+    settled(plant, verdict, next)
 }
 
 // 0x21: the list for the other contexts.
@@ -166,18 +172,7 @@ pub fn mmu_tsb_ctxnon0(
 {
     let new = new_tsbs(extents, mem, ntsb, pointer);
     let verdict = new.verdict;
-    match verdict {
-        Verdict::Refused(r) => Done {
-            answer: Answer::Refused(r),
-            plant,
-        },
-        Verdict::Right => {
-            let tsbs = new.tsbs;
-            let next = with_ctxnon0(plant, cpu, tsbs);
-            Done {
-                answer: Answer::Done,
-                plant: next,
-            }
-        }
-    }
+    let tsbs = new.tsbs;
+    let next = with_ctxnon0(plant, cpu, tsbs);
+    settled(plant, verdict, next)
 }

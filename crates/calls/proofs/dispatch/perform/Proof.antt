@@ -4,7 +4,8 @@ use mathlib.Core.Path.{refl}
 use Rattle.rules.specs.declared.Function.{Function}
 use Rattle.rules.specs.Calls.{perform}
 use Rattle.calls.specs.Dispatch.{sysinoRule}
-use Rattle.calls.proofs.DispatchLaws.{quiet, quiet-told, perform-as}
+use Rattle.plants.proofs.OutcomeLaws.{quiet, quiet-told}
+use Rattle.calls.proofs.DispatchLaws.{perform-as}
 use Rattle.calls.proofs.dispatch.perform.Statement.{statement}
 use Rattle.calls.proofs.dispatch.perform.Tie as tie
 
