@@ -289,7 +289,7 @@ fn set_absent(t: Tables, field: u64, v: u64) -> Tables {
     next
 }
 
-pub fn drafted(t: Tables, to: StoreAt) -> Tables {
+pub(crate) fn drafted(t: Tables, to: StoreAt) -> Tables {
     let record = to.guest;
     let field = to.address;
     let v = to.value;

@@ -24,7 +24,7 @@ fn show_list(list: TsbList) {
 }
 
 // The lists of guest 0: of cpu 0 those of 0x20 and 0x21, of cpu 1 that of 0x20.
-pub fn show_ctx0(tables: Tables) {
+pub(crate) fn show_ctx0(tables: Tables) {
     let guest = tables.guest[0];
     let plant = guest.plant;
     let cpu = plant.cpu[0];
@@ -32,7 +32,7 @@ pub fn show_ctx0(tables: Tables) {
     show_list(list);
 }
 
-pub fn show_ctxnon0(tables: Tables) {
+pub(crate) fn show_ctxnon0(tables: Tables) {
     let guest = tables.guest[0];
     let plant = guest.plant;
     let cpu = plant.cpu[0];
@@ -40,7 +40,7 @@ pub fn show_ctxnon0(tables: Tables) {
     show_list(list);
 }
 
-pub fn show_other(tables: Tables) {
+pub(crate) fn show_other(tables: Tables) {
     let guest = tables.guest[0];
     let plant = guest.plant;
     let cpu = plant.cpu[1];

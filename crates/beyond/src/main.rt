@@ -1,16 +1,16 @@
 // What a session cannot show: scrubs past their cap, the TSB lists that are kept, and tables that break a rule. A session's lines
 // over longer memory, with words of its own for the rest; docs/session/README.md says what each prints.
 mod draft;
+mod lent;
 mod lists;
-mod memory;
 mod same;
 mod say;
 mod step;
 
 ghost use Prim.Native.Nat.{_≤_};
 ghost use lib.ListN.{length};
+use lent::filled;
 use libc::STDIN_FILENO;
-use memory::filled;
 use step::Bench;
 
 // The place of the next line feed, or the end.

@@ -168,7 +168,7 @@ fn same_guest(a: Guest, b: Guest) -> bool {
     same_extents(p, q) & same_plant(v, w)
 }
 
-pub fn same_tables(a: Tables, b: Tables) -> bool {
+pub(crate) fn same_tables(a: Tables, b: Tables) -> bool {
     let p = a.guest;
     let q = b.guest;
     (a.guests == b.guests)

@@ -1,17 +1,17 @@
 // What is printed.
 use libc::STDOUT_FILENO;
 
-pub fn say(text: &[u8]) {
+pub(crate) fn say(text: &[u8]) {
     io::write_all(STDOUT_FILENO, text);
 }
 
 // In hex, with what stands behind it.
-pub fn say_number(n: u64, end: &[u8]) {
+pub(crate) fn say_number(n: u64, end: &[u8]) {
     io::print_hex(STDOUT_FILENO, n, 1);
     say(end);
 }
 
-pub fn say_numbers(ns: [u64; 5]) {
+pub(crate) fn say_numbers(ns: [u64; 5]) {
     say_number(ns[0], b" ");
     say_number(ns[1], b" ");
     say_number(ns[2], b" ");
@@ -20,7 +20,7 @@ pub fn say_numbers(ns: [u64; 5]) {
 }
 
 // What is other than before.
-pub fn say_changed(tables: bool, memory: bool) {
+pub(crate) fn say_changed(tables: bool, memory: bool) {
     if tables & memory {
         say(b"both\n");
     } else if tables {

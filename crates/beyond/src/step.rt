@@ -1,15 +1,15 @@
 // A line, and what it prints.
 use crate::draft::drafted;
+use crate::lent::MEMORY;
+use crate::lent::filled;
+use crate::lent::keep;
+use crate::lent::put_back;
+use crate::lent::same_as;
+use crate::lent::same_bytes;
+use crate::lent::zeros_of;
 use crate::lists::show_ctx0;
 use crate::lists::show_ctxnon0;
 use crate::lists::show_other;
-use crate::memory::MEMORY;
-use crate::memory::filled;
-use crate::memory::keep;
-use crate::memory::put_back;
-use crate::memory::same_as;
-use crate::memory::same_bytes;
-use crate::memory::zeros_of;
 use crate::same::same_tables;
 use crate::say::say;
 use crate::say::say_changed;
@@ -29,7 +29,7 @@ pub struct Bench {
 }
 
 // No guest, and all of memory.
-pub fn begin() -> Bench {
+pub(crate) fn begin() -> Bench {
     let loaded = image::load(b"");
     let tables = loaded.tables;
     Bench {
@@ -219,7 +219,7 @@ fn run_try(bench: Bench, mem: &mut [u8], line: &[u8]) -> Bench {
     }
 }
 
-pub fn run_line(bench: Bench, mem: &mut [u8], line: &[u8]) -> Bench {
+pub(crate) fn run_line(bench: Bench, mem: &mut [u8], line: &[u8]) -> Bench {
     // Too short for any of these words and what has to stand behind it.
     if line.len() < 5 {
         return run_plain(bench, mem, line);

@@ -9,7 +9,7 @@ pub const MEMORY: usize = 262144;
 pub const FILL: u8 = 0xa5;
 
 // The `ensures` gives only the length, which lending it as a slice needs.
-pub fn filled() -> [u8; MEMORY]
+pub(crate) fn filled() -> [u8; MEMORY]
     ensures { λ r. ⌜ 262144 ≡ length r ⌝ }
 {
     [FILL; MEMORY]
@@ -28,7 +28,7 @@ fn copy(from: &[u8], to: &mut [u8]) {
 }
 
 // Compares as much as there is in both.
-pub fn same_bytes(a: &[u8], b: &[u8]) -> bool {
+pub(crate) fn same_bytes(a: &[u8], b: &[u8]) -> bool {
     let mut i = 0;
     while i < a.len() {
         if b.len() <= i {
@@ -44,15 +44,15 @@ pub fn same_bytes(a: &[u8], b: &[u8]) -> bool {
 
 // The memory before an event: all that is lent of it, at the front of an array. An array, and no slice, so that its length is
 // known after each of these.
-pub fn keep(mem: &[u8], before: &mut [u8; MEMORY]) {
+pub(crate) fn keep(mem: &[u8], before: &mut [u8; MEMORY]) {
     copy(mem, before);
 }
 
-pub fn same_as(mem: &[u8], before: &[u8; MEMORY]) -> bool {
+pub(crate) fn same_as(mem: &[u8], before: &[u8; MEMORY]) -> bool {
     same_bytes(mem, before)
 }
 
-pub fn put_back(before: &[u8; MEMORY], mem: &mut [u8]) {
+pub(crate) fn put_back(before: &[u8; MEMORY], mem: &mut [u8]) {
     copy(before, mem);
 }
 
@@ -86,7 +86,7 @@ fn counted(z: Zeros, at: u64, byte: u8) -> Zeros {
     }
 }
 
-pub fn zeros_of(mem: &[u8]) -> Zeros {
+pub(crate) fn zeros_of(mem: &[u8]) -> Zeros {
     let mut z = Zeros {
         first: 0,
         end: 0,

@@ -5,8 +5,8 @@ use borrow.Author.Needs.{needs}
 use Prim.{tt}
 use lib.ListN.{length}
 use native.Mathlib.Omega.{arith}
-use Rattle.beyond.proofs.memory.copy.Statement.{statement}
-use Rattle.beyond.proofs.memory.copy.Tie as tie
+use Rattle.beyond.proofs.lent.copy.Statement.{statement}
+use Rattle.beyond.proofs.lent.copy.Tie as tie
 
 abbrev Inv-loop : tie.InvT-loop
 Inv-loop from to₀ i₀ to i = length to ≡ length to₀
