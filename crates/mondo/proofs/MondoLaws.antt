@@ -1,5 +1,5 @@
 -- 0x42's rule at each return of the code, from the tests on the way.
-use mathlib.Core.Path.{_≡_, refl, _∙_}
+use mathlib.Core.Path.{_≡_, refl, ap, _∙_}
 use mathlib.Core.Bool.{Bool, true, false, _&&_, not}
 use mathlib.Core.List.{List, [], _∷_, _++_, append-nil}
 use Prim.Native.Nat.{ℕ, _+_, _*_, _%_, _≤_, _<_}
@@ -14,7 +14,7 @@ use Rattle.rules.specs.declared.Plant.{Plant}
 use Rattle.rules.specs.declared.QueueRecord.{QueueRecord}
 use Rattle.rules.specs.declared.Refusal.the-variants.{EINVAL, EBADALIGN, ENORADDR, ENOCPU}
 use Rattle.rules.specs.declared.Ring.{Ring}
-use Rattle.rules.specs.Kept.{cpuAt, queueAt}
+use Rattle.rules.specs.Kept.{cpuAt, queueAt, withQueue}
 use Rattle.rules.specs.Scan.{someBelow, allBelow}
 use Rattle.rules.specs.Real.{apply}
 use Rattle.rules.specs.Rulings.{Ruling, Outcome, if_then_else_}
@@ -24,10 +24,11 @@ use Rattle.memory.specs.Cells.{one}
 use Rattle.memory.specs.Ready.{present}
 use Rattle.memory.proofs.Writes.{apply-append}
 use Rattle.records.specs.declared.Verdict.the-variants.{Right, Refused as Told}
-use Rattle.plants.specs.declared.rings.Sent.{Sent as Came}
+use Rattle.plants.specs.declared.rings.Put.{Put}
 use Rattle.plants.specs.Judged.{judged}
-use Rattle.plants.specs.Put.{putOne, putTo, Puts}
-use Rattle.mondo.specs.Steps.{mondoRanges, mondoCpus}
+use Rattle.plants.specs.Put.{putOne, putTo, Puts, putIn, PutsIn}
+use Rattle.plants.proofs.PutLaws.{put-is}
+use Rattle.mondo.specs.Steps.{mondoRanges, mondoCpus, sendIn}
 
 -- what is asked before the list is read
 module _ (v : ℕ → ℕ → Bool) (count list at : ℕ) (rest : Ruling Outcome) where
@@ -89,8 +90,18 @@ module _ (entry : ℕ → ℕ) (count cpu cpus : ℕ) (t : Bool) (p : t ≡ some
     unfolding mondoCpus judged
     cpus-right e = rw (← p, h, ← q, not-false s e)
 
+-- one ring: the packet is put, and the list marked if it was
+module _ (extents : Extents) (held : QueueRecord) (m packet : List ℕ) (mark : ℕ) (r : Put) (m₁ : List ℕ) (f : PutsIn extents (putIn held packet) m r m₁) where
+  pub one-left : r .room ≡ false → PutsIn extents (sendIn held packet mark) m r m₁
+  unfolding sendIn
+  one-left h = record { held = f .held; room = f .room; memory = f .memory ∙ rw (← f .room, h, append-nil) }
+
+  pub one-sent : (m₂ : List ℕ) → r .room ≡ true → m₂ ≡ apply (present extents) m₁ (one mark (0xff ∷ 0xff ∷ [])) → PutsIn extents (sendIn held packet mark) m r m₂
+  unfolding sendIn
+  one-sent m₂ h w = record { held = f .held; room = f .room; memory = w ∙ rw (f .memory, ← f .room, h, apply-append) }
+
 -- one cpu: the entry is put, and marked if it was
-module _ (extents : Extents) (plant : Plant) (m : List ℕ) (cpu : ℕ) (packet : List ℕ) (mark : ℕ) where
+module _ (plant : Plant) (cpu : ℕ) (packet : List ℕ) (mark : ℕ) where
   abbrev marked : Sent → Sent
   marked sent = record { plant = sent .plant; all = sent .all; writes = sent .writes ++ (if sent .all then one mark (0xff ∷ 0xff ∷ []) else []) }
 
@@ -106,11 +117,8 @@ module _ (extents : Extents) (plant : Plant) (m : List ℕ) (cpu : ℕ) (packet 
       go QueueRecord.Unset = refl
       go (QueueRecord.Set ring) = by ring (hasRoom ring) refl
 
-  module _ (r : Came) (m₁ : List ℕ) (f : Puts extents (putOne plant cpu 0 packet) m r m₁) where
-    pub one-left : r .all ≡ false → Puts extents (sendOne plant cpu packet mark) m r m₁
-    one-left h = rw one-is (record { plant = f .plant; all = f .all; memory = f .memory ∙ rw (← f .all, h, append-nil) })
-
-    pub one-sent : (m₂ : List ℕ) → r .all ≡ true → m₂ ≡ apply (present extents) m₁ (one mark (0xff ∷ 0xff ∷ [])) → Puts extents (sendOne plant cpu packet mark) m r m₂
-    one-sent m₂ h w =
-        rw one-is
-        (record { plant = f .plant; all = f .all; memory = w ∙ rw (f .memory, ← f .all, h, apply-append) })
+  -- the ring's record, put back
+  pub one-plant : (extents : Extents) (m : List ℕ) (r : Put) (m′ : List ℕ) → PutsIn extents (sendIn (queueAt (cpuAt plant cpu) 0) packet mark) m r m′
+      → Puts extents (sendOne plant cpu packet mark) m (record { plant = withQueue plant cpu 0 (r .held); all = r .room }) m′
+  unfolding sendIn
+  one-plant extents m r m′ f = rw (one-is, put-is plant cpu 0 packet) (record { plant = ap (withQueue plant cpu 0) (f .held); all = f .room; memory = f .memory })

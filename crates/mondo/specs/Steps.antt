@@ -1,13 +1,17 @@
 -- The steps of 0x42's rule that are functions of their own in the code.
 use mathlib.Core.Bool.{Bool, _&&_, not}
+use mathlib.Core.List.{List, [], _∷_, _++_}
 use Prim.Native.Nat.{ℕ, _*_, _%_}
 use lib.Dec.{leb, ltb, eqb}
 use Rattle.rules.specs.declared.Plant.{Plant}
+use Rattle.rules.specs.declared.QueueRecord.{QueueRecord}
 use Rattle.rules.specs.declared.Refusal.the-variants.{EINVAL, EBADALIGN, ENORADDR, ENOCPU}
 use Rattle.rules.specs.Scan.{someBelow, allBelow}
 use Rattle.rules.specs.Real.{Sight, bytesFrom}
-use Rattle.rules.specs.Rulings.{Ruling, granted, Outcome, _or-refuse_then_}
+use Rattle.rules.specs.Rulings.{Ruling, granted, Outcome, _or-refuse_then_, if_then_else_}
 use Rattle.rules.specs.Mondo.{entryAt, entries, sendAll, sentAs}
+use Rattle.memory.specs.Cells.{one}
+use Rattle.plants.specs.Put.{PutIn, putIn}
 
 -- what is asked before the list is read
 unfoldable pub mondoRanges : (ℕ → ℕ → Bool) → ℕ → ℕ → ℕ → Ruling Outcome → Ruling Outcome
@@ -29,3 +33,9 @@ unfoldable pub mondoSent : Sight → Plant → ℕ → ℕ → ℕ → ℕ → R
 mondoSent sight plant cpu count list dataAt =
     mondoCpus (entryAt (sight .byte) list) count cpu (plant .cpus)
     (granted (sentAs (sendAll plant (entries (sight .byte) list count) (bytesFrom (sight .byte) dataAt 64) list)))
+
+-- the packet to one cpu's ring, and the mark in the list if it was put
+unfoldable pub sendIn : QueueRecord → List ℕ → ℕ → PutIn
+sendIn held packet mark =
+    let p : PutIn = putIn held packet in
+    record { held = p .held; room = p .room; writes = p .writes ++ (if p .room then one mark (0xff ∷ 0xff ∷ []) else []) }

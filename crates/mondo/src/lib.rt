@@ -1,11 +1,14 @@
 // 0x42: a mondo to each cpu of a list.
 use plants::Done;
+use plants::Put;
 use plants::Sent;
 use plants::put_entry;
 use records::Verdict;
 use rules::Answer;
 use rules::Extents;
 use rules::Plant;
+use rules::Queue;
+use rules::QueueRecord;
 use rules::Real;
 use rules::Refusal;
 ghost use mathlib.Core.Path.{_≡_};
@@ -17,13 +20,13 @@ ghost use Rattle.rules.specs.Limits.{extentLimit};
 ghost use Rattle.rules.specs.Scan.{someBelow, allBelow};
 ghost use Rattle.rules.specs.Real.{valid, byteAt, sightOf};
 ghost use Rattle.rules.specs.Rulings.{Ruling, Outcome};
-ghost use Rattle.rules.specs.Mondo.{entries, sendOne, sendAll, cpu-mondo-send};
+ghost use Rattle.rules.specs.Mondo.{entries, sendAll, cpu-mondo-send};
 ghost use Rattle.memory.specs.Ready.{present, Ready};
 ghost use Rattle.records.specs.Sound.{Sound};
 ghost use Rattle.plants.specs.Follows.{Follows};
 ghost use Rattle.plants.specs.Judged.{judged};
-ghost use Rattle.plants.specs.Put.{Puts};
-ghost use Rattle.mondo.specs.Steps.{mondoRanges, mondoCpus, mondoSent};
+ghost use Rattle.plants.specs.Put.{Puts, PutsIn, HeldSound};
+ghost use Rattle.mondo.specs.Steps.{mondoRanges, mondoCpus, mondoSent, sendIn};
 
 // The longest list.
 const MONDOS: usize = 64;
@@ -129,26 +132,26 @@ fn judge_cpus(cpus: &[u16; MONDOS], count: usize, cpu: usize, limit: u8) -> Verd
     Verdict::Right
 }
 
-// The packet to one cpu, whose entry in the list stands at mark and becomes 0xffff.
+// The packet to one cpu's ring, whose entry in the list stands at mark and becomes 0xffff.
 fn send_one(
     extents: Extents,
-    plant: Plant,
+    held: QueueRecord,
     mem: &mut [u8],
-    cpu: usize,
     packet: &[u8; 64],
     mark: u64,
-) -> Sent
-    requires { ⌜ Sound extents plant (length (now mem)) ⌝ }
-    requires { ⌜ cpu < plant .cpus ⌝ }
+) -> Put
+    requires { ⌜ extents .count ≤ extentLimit ⌝ }
+    requires { ⌜ Ready (present extents) (length (now mem)) ⌝ }
+    requires { ⌜ HeldSound extents held ⌝ }
     requires { ⌜ valid (present extents) mark 2 ≡ true ⌝ }
-    ensures { λ r. ⌜ Puts extents (sendOne plant cpu (now (packet .entry)) mark) (now (mem .entry)) r (now (mem .exit)) ⌝ }
+    ensures { λ r. ⌜ PutsIn extents (sendIn held (now (packet .entry)) mark) (now (mem .entry)) r (now (mem .exit)) ⌝ }
 {
-    let sent = put_entry(extents, plant, mem, cpu, 0, packet);
-    if sent.all {
+    let put = put_entry(extents, held, mem, packet);
+    if put.room {
         let sign = [0xffu8; 2];
         memory::write_at(extents, mem, Real(mark), &sign);
     }
-    sent
+    put
 }
 
 // The packet to each cpu of the list, in its order.
@@ -173,10 +176,14 @@ fn send_all(
     while i < count {
         let cpu = cpus[i] as usize;
         let mark = list + 2 * (i as u64);
-        let sent = send_one(extents, next, mem, cpu, packet, mark);
-        let after = sent.plant;
-        next = after;
-        all = all & sent.all;
+        let mut c = next.cpu[cpu];
+        let queue = c.queues[0];
+        let held = queue.held;
+        let put = send_one(extents, held, mem, packet, mark);
+        let after = put.held;
+        c.queues[0] = Queue { held: after };
+        next.cpu[cpu] = c;
+        all = all & put.room;
         i += 1;
     }
     Sent { plant: next, all }

@@ -9,6 +9,7 @@ pub use parts::with_ctxnon0;
 pub use parts::with_queue;
 pub use parts::with_source;
 pub use parts::with_statistics;
+pub use rings::Put;
 pub use rings::Sent;
 pub use rings::put_entry;
 use rules::Answer;

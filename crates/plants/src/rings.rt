@@ -1,5 +1,4 @@
 // An entry put into a ring.
-use crate::parts::with_queue;
 use rules::Extents;
 use rules::Plant;
 use rules::QueueRecord;
@@ -8,15 +7,21 @@ use rules::Ring;
 ghost use mathlib.Core.Path.{_≡_};
 ghost use Prim.Native.Nat.{_<_, _≤_};
 ghost use lib.ListN.{length};
-ghost use Rattle.rules.specs.Limits.{queueLimit};
+ghost use Rattle.rules.specs.Limits.{extentLimit};
 ghost use Rattle.rules.specs.Queues.{nextTail};
-ghost use Rattle.records.specs.Sound.{Sound};
-ghost use Rattle.plants.specs.Put.{putOne, Puts};
+ghost use Rattle.memory.specs.Ready.{Ready, present};
+ghost use Rattle.plants.specs.Put.{putIn, PutsIn, HeldSound};
 
 // What sending has come to: the plant's record, and whether nothing was left for want of room.
 pub struct Sent {
     pub plant: Plant,
     pub all: bool,
+}
+
+// What putting an entry has come to: the queue's record, and whether there was a ring with room.
+pub struct Put {
+    pub held: QueueRecord,
+    pub room: bool,
 }
 
 // The place after the tail.
@@ -27,28 +32,19 @@ fn next_tail(ring: Ring) -> u16
     (ring.tail + 64) % ring.size
 }
 
-// An entry at the tail of a cpu's queue q, which moves on, if there is a ring with room.
-pub fn put_entry(
-    extents: Extents,
-    plant: Plant,
-    mem: &mut [u8],
-    cpu: usize,
-    q: usize,
-    entry: &[u8; 64],
-) -> Sent
-    requires { ⌜ Sound extents plant (length (now mem)) ⌝ }
-    requires { ⌜ (cpu < plant .cpus) × (q < queueLimit) ⌝ }
-    ensures { λ r. ⌜ Puts extents (putOne plant cpu q (now (entry .entry))) (now (mem .entry)) r (now (mem .exit)) ⌝ }
+// An entry at the tail of a queue's ring, which moves on, if there is a ring with room. It takes the one record, not the plant's.
+pub fn put_entry(extents: Extents, held: QueueRecord, mem: &mut [u8], entry: &[u8; 64]) -> Put
+    requires { ⌜ extents .count ≤ extentLimit ⌝ }
+    requires { ⌜ Ready (present extents) (length (now mem)) ⌝ }
+    requires { ⌜ HeldSound extents held ⌝ }
+    ensures { λ r. ⌜ PutsIn extents (putIn held (now (entry .entry))) (now (mem .entry)) r (now (mem .exit)) ⌝ }
 {
-    let c = plant.cpu[cpu];
-    let queue = c.queues[q];
-    let held = queue.held;
     match held {
-        QueueRecord::Unset => Sent { plant, all: false },
+        QueueRecord::Unset => Put { held, room: false },
         QueueRecord::Set(ring) => {
             let tail = next_tail(ring);
             if tail == ring.head {
-                return Sent { plant, all: false };
+                return Put { held, room: false };
             }
             let at = ring.base + (ring.tail as u64);
             memory::write_at(extents, mem, Real(at), entry);
@@ -58,10 +54,9 @@ pub fn put_entry(
                 head: ring.head,
                 tail,
             };
-            let next = with_queue(plant, cpu, q, QueueRecord::Set(moved));
-            Sent {
-                plant: next,
-                all: true,
+            Put {
+                held: QueueRecord::Set(moved),
+                room: true,
             }
         }
     }

@@ -74,7 +74,7 @@ pub told-determined : (κs : _) (a : _) (r s : _) (ws vs : _) → told-reads.Pos
 told-determined κs a r s ws vs p q = one-done _ r s p q
 
 pub put-entry-determined : (κs : _) (a : _) (r s : _) (ws vs : _) → put-entry-reads.Post κs a r ws → put-entry-reads.Post κs a s vs → (r ≡ s) × (now (ws .1 .1 .0) ≡ now (vs .1 .1 .0))
-put-entry-determined κs a r s ws vs p q = ((λ i. record { plant = (p .plant ∙ sym (q .plant)) i; all = (p .all ∙ sym (q .all)) i }), p .memory ∙ sym (q .memory))
+put-entry-determined κs a r s ws vs p q = ((λ i. record { held = (p .held ∙ sym (q .held)) i; room = (p .room ∙ sym (q .room)) i }), p .memory ∙ sym (q .memory))
 
 -- versions: set version and get version
 pub set-version-determined : (κs : _) (a : _) (r s : _) (ws vs : _) → set-version-reads.Post κs a r ws → set-version-reads.Post κs a s vs → r ≡ s

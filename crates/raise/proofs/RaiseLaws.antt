@@ -20,9 +20,10 @@ use Rattle.rules.specs.Mondo.{Sent}
 use Rattle.rules.specs.Sources.{deviceEntry, deliverTo, raiseAt}
 use Rattle.records.specs.Sound.{TargetSound, Sound}
 use Rattle.plants.specs.declared.Done.{Done}
-use Rattle.plants.specs.declared.rings.Sent.{Sent as Came}
+use Rattle.plants.specs.declared.rings.Put.{Put}
 use Rattle.plants.specs.Follows.{Follows}
-use Rattle.plants.specs.Put.{putOne, putTo, Puts}
+use Rattle.plants.specs.Put.{putOne, putTo, Puts, putIn, PutsIn}
+use Rattle.plants.proofs.PutLaws.{puts-plant}
 use Rattle.raise.specs.Raised.{deviceWord, entryOf, becoming, delivering}
 
 -- a target is a cpuid
@@ -67,8 +68,11 @@ module _ (extents : Extents) (plant : Plant) (m : List ℕ) (i : ℕ) where
       raise-delivers c d m′ t f = rw (ne-eqb (sourceAt plant i .state) 2 n, eq-eqb (sourceAt plant i .enabled) 1 o, t) f
 
 -- an entry to a cpu
-module _ (extents : Extents) (plant : Plant) (m : List ℕ) (i c w : ℕ) (entry : List ℕ) (a : w ≡ deviceWord plant i) (b : entry ≡ entryOf w) (r : Came) (m′ : List ℕ)
-    (f : Puts extents (putOne plant c 1 entry) m r m′) where
+module _ (extents : Extents) (plant : Plant) (m : List ℕ) (i c w : ℕ) (entry : List ℕ) (a : w ≡ deviceWord plant i) (b : entry ≡ entryOf w) (r : Put) (m′ : List ℕ)
+    (p : PutsIn extents (putIn (queueAt (cpuAt plant c) 1) entry) m r m′) where
+  f : Puts extents (putOne plant c 1 entry) m (record { plant = withQueue plant c 1 (r .held); all = r .room }) m′
+  f = puts-plant plant c 1 entry extents m r m′ p
+
   -- what was put, as the rule tells it
   abbrev telling : Sent → Outcome
   telling s =
@@ -92,8 +96,8 @@ module _ (extents : Extents) (plant : Plant) (m : List ℕ) (i c w : ℕ) (entry
       go QueueRecord.Unset = refl
       go (QueueRecord.Set ring) = by ring (hasRoom ring) refl
 
-  pub deliver-full : (d : Done) → not (r .all) ≡ true → d ≡ becoming plant i 1 → Follows extents plant (delivering plant i c) m d m′
-  deliver-full d h e = rw (told, ← f .all, not-true (r .all) h, e) (record { answer = refl; plant = refl; memory = f .memory })
+  pub deliver-full : (d : Done) → not (r .room) ≡ true → d ≡ becoming plant i 1 → Follows extents plant (delivering plant i c) m d m′
+  deliver-full d h e = rw (told, ← f .all, not-true (r .room) h, e) (record { answer = refl; plant = refl; memory = f .memory })
 
-  pub deliver-done : (d : Done) → not (r .all) ≡ false → d ≡ becoming (r .plant) i 2 → Follows extents plant (delivering plant i c) m d m′
-  deliver-done d h e = rw (told, ← f .all, not-false (r .all) h, e, f .plant) (record { answer = refl; plant = refl; memory = f .memory })
+  pub deliver-done : (d : Done) (next : Plant) → not (r .room) ≡ false → next ≡ withQueue plant c 1 (r .held) → d ≡ becoming next i 2 → Follows extents plant (delivering plant i c) m d m′
+  deliver-done d next h n e = rw (told, ← f .all, not-false (r .room) h, e, n, f .plant) (record { answer = refl; plant = refl; memory = f .memory })

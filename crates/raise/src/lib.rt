@@ -1,6 +1,7 @@
 // Raise: a device interrupts.
 use plants::Done;
 use plants::put_entry;
+use plants::with_queue;
 use plants::with_source;
 use rules::Answer;
 use rules::Extents;
@@ -58,11 +59,15 @@ fn deliver(extents: Extents, plant: Plant, mem: &mut [u8], i: usize, cpu: usize)
     ensures { λ r. ⌜ Follows extents plant (delivering plant i cpu) (now (mem .entry)) r (now (mem .exit)) ⌝ }
 {
     let entry = entry_of(device_word(plant, i));
-    let sent = put_entry(extents, plant, mem, cpu, 1, &entry);
-    if !sent.all {
+    let c = plant.cpu[cpu];
+    let queue = c.queues[1];
+    let held = queue.held;
+    let put = put_entry(extents, held, mem, &entry);
+    if !put.room {
         return becomes(plant, i, 1);
     }
-    let next = sent.plant;
+    let after = put.held;
+    let next = with_queue(plant, cpu, 1, after);
     becomes(next, i, 2)
 }
 

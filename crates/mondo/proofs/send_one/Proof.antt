@@ -16,7 +16,7 @@ write-at-requires : tie.Need-write-at-requires
 write-at-requires c κs =
     let p = c .before .before .before .before .before in
     let s = p .before .before .before in
-    (s .pre .0 .few, (subst (Ready (present (s .args .extents))) (sym (p .put-entry .kept .1 .1 .0)) (s .pre .0 .ready), s .pre .1 .1))
+    (s .pre .0, (subst (Ready (present (s .args .extents))) (sym (p .put-entry .kept .1 .1 .0)) (s .pre .1 .0), s .pre .1 .1 .1))
 
 same-length : tie.Need-same-length
 same-length c = search needs

@@ -1,4 +1,5 @@
 -- `raise::deliver` meets its contract: each return is the rule's case, by what was put.
+use native.Mathlib.Omega.{arith}
 use borrow.Author.Needs.{needs}
 use Rattle.raise.proofs.RaiseLaws.{deliver-full, deliver-done}
 use Rattle.raise.proofs.deliver.Statement.{statement}
@@ -10,8 +11,19 @@ device-word-requires c κs = search needs
 entry-of-requires : tie.Need-entry-of-requires
 entry-of-requires c κs = search needs
 
+mul-c : tie.Need-mul-c
+mul-c c = search needs
+
+element-copy-out-c : tie.Need-element-copy-out-c
+element-copy-out-c c = search needs
+
+element-copy-out-queue : tie.Need-element-copy-out-queue
+element-copy-out-queue c = search needs
+
 put-entry-requires : tie.Need-put-entry-requires
-put-entry-requires c κs = search needs
+put-entry-requires c κs =
+    let s = c .before .before .before .before .before .before .before in
+    (s .pre .0 .few, (s .pre .0 .ready, s .pre .0 .rings _ 1 (s .pre .1 .1) (omega arith)))
 
 becomes-requires : tie.Need-becomes-requires
 becomes-requires c κs = search needs
@@ -22,6 +34,9 @@ same-length c = search needs
 returns : tie.Need-returns
 returns c = search deliver-full
 
+with-queue-requires : tie.Need-with-queue-requires
+with-queue-requires c κs = search needs
+
 becomes-requires-2 : tie.Need-becomes-requires-2
 becomes-requires-2 c κs = search needs
 
@@ -29,7 +44,10 @@ same-length-2 : tie.Need-same-length-2
 same-length-2 c = search needs
 
 returns-2 : tie.Need-returns-2
-returns-2 c = search deliver-done
+returns-2 c =
+    let p = c .before .before .before .before .before .before in
+    let e = p .before .before .before .before .before in
+    deliver-done _ _ _ _ _ _ _ (e .before .device-word .ensures) (e .entry-of .ensures) (p .put-entry .result) _ (p .put-entry .ensures) _ _ (c .before .before .if1 .left) (c .before .with-queue .ensures) (c .becomes2 .ensures)
 
 pub deliver-spec : {M : Type 1} → statement M
 deliver-spec =
@@ -37,10 +55,14 @@ deliver-spec =
     (tie.spec
     device-word-requires
     entry-of-requires
+    mul-c
+    element-copy-out-c
+    element-copy-out-queue
     put-entry-requires
     becomes-requires
     same-length
     returns
+    with-queue-requires
     becomes-requires-2
     same-length-2
     returns-2)

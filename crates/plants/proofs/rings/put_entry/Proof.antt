@@ -5,28 +5,16 @@ use Rattle.rules.specs.Real.{valid}
 use Rattle.memory.specs.Ready.{present}
 use Rattle.memory.proofs.Places.{valid-part}
 use Rattle.records.specs.Sound.{RingSound}
-use Rattle.plants.proofs.PutLaws.{ring-found, put-unset, put-full, put-done}
+use Rattle.plants.proofs.PutLaws.{ring-held, put-unset, put-full, put-done}
 use Rattle.plants.proofs.Reach.{range-ends}
 use Rattle.plants.proofs.rings.put_entry.Statement.{statement}
 use Rattle.plants.proofs.rings.put_entry.Tie as tie
 
 -- the ring that was found
-found : (d : tie.After-held) → RingSound (valid (present (d .before .before .before .before .before .args .extents))) (d .held .given .0 .0)
+found : (d : tie.After-held) → RingSound (valid (present (d .before .before .before .args .extents))) (d .held .given .0 .0)
 found d =
-    let s = d .before .before .before .before .before in
-    ring-found _ _ _ _ _ (s .pre .0) (s .pre .1 .0) (s .pre .1 .1) _ (d .held .given .1)
-
-mul-c : tie.Need-mul-c
-mul-c c = search needs
-
-element-copy-out-c : tie.Need-element-copy-out-c
-element-copy-out-c c = search needs
-
-mul-queue : tie.Need-mul-queue
-mul-queue c = search needs
-
-element-copy-out-queue : tie.Need-element-copy-out-queue
-element-copy-out-queue c = search needs
+    let s = d .before .before .before in
+    ring-held (s .args .extents) _ (s .pre .1 .1) _ (d .held .given .1)
 
 enum-told : tie.Need-enum-told
 enum-told c = search needs
@@ -44,21 +32,16 @@ cast-at : tie.Need-cast-at
 cast-at c = search needs
 
 add-at : tie.Need-add-at
-add-at c =
-    let d = c .before .before .before .before .before .before in
-    let s = d .before .before .before .before .before in
+add-at c = let d = c .before .before .before .before .before .before in
+    let s = d .before .before .before in
     let r = found d in
     omega (arith, r .tail-below, range-ends (s .args .extents) _ _ _ (s .good .0) (r .within))
 
 write-at-requires : tie.Need-write-at-requires
-write-at-requires c κs =
-    let d = c .before .before .before .before .before .before .before .before in
-    let s = d .before .before .before .before .before in
+write-at-requires c κs = let d = c .before .before .before .before .before .before .before .before in
+    let s = d .before .before .before in
     let r = found d in
-    (s .pre .0 .few, (s .pre .0 .ready, valid-part _ _ _ _ _ (r .within) (omega (arith, r .tail, r .whole, r .tail-below, s .good))))
-
-with-queue-requires : tie.Need-with-queue-requires
-with-queue-requires c κs = search needs
+    (s .pre .0, (s .pre .1 .0, valid-part _ _ _ _ _ (r .within) (omega (arith, r .tail, r .whole, r .tail-below, s .good))))
 
 returns-2 : tie.Need-returns-2
 returns-2 c = search put-unset
@@ -73,10 +56,6 @@ pub put-entry-spec : {M : Type 1} → statement M
 put-entry-spec =
     tie.close
     (tie.spec
-    mul-c
-    element-copy-out-c
-    mul-queue
-    element-copy-out-queue
     enum-told
     enum-known-held
     next-tail-requires
@@ -84,7 +63,6 @@ put-entry-spec =
     cast-at
     add-at
     write-at-requires
-    with-queue-requires
     returns-2
     same-length
     returns-3)
