@@ -31,7 +31,7 @@ plant-event-requires : tie.Need-plant-event-requires
 plant-event-requires c κs = guest-sound _ _ _ (c .before .before .before .before .before .before .before .before .entry-of .ensures) _ _ (c .before .before .before .before .before .before .before .seat-of .ensures) _ (c .before .before .before .before .before .i .given .1)
 
 with-plant-requires : tie.Need-with-plant-requires
-with-plant-requires c κs = guest-below _ _ _ (c .before .before .before .before .before .before .before .before .before .before .before .before .entry-of .ensures) _ _ (c .before .before .before .before .before .before .before .before .before .before .before .seat-of .ensures) _ (c .before .before .before .before .before .before .before .before .before .i .given .1)
+with-plant-requires c κs = omega (arith, guest-below _ _ _ (c .before .before .before .before .before .before .before .before .before .before .before .before .entry-of .ensures) _ _ (c .before .before .before .before .before .before .before .before .before .before .before .seat-of .ensures) _ (c .before .before .before .before .before .before .before .before .before .i .given .1))
 
 returns : tie.Need-returns
 returns c = let s = c .before .before .before .before in
