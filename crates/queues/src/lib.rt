@@ -14,7 +14,7 @@ ghost use Prim.Native.Nat.{_≤_, _<_, _-_};
 ghost use Rattle.rules.specs.Limits.{cpuLimit, extentLimit};
 ghost use Rattle.rules.specs.Rulings.{outcomeOf};
 ghost use Rattle.rules.specs.declared.Plant.{Plant as PlantRecord};
-ghost use Rattle.rules.specs.Kept.{cpuAt, queueAt};
+ghost use Rattle.rules.specs.Kept.{cpuAt, queueAt, withHead};
 ghost use Rattle.rules.specs.Queues.{forward, cpu-qconf, cpu-qinfo, cpu-myid, write-head};
 ghost use Rattle.plants.specs.Done.{quietly, saying, validIn};
 ghost use Rattle.queues.specs.Rings.{PlacesIn, PlacesSound, newHead, movedOf};
@@ -99,6 +99,13 @@ fn forward_to(ring: Ring, to: u64) -> u64
     let size = ring.size as u64;
     let head = ring.head as u64;
     (to + size - head) % size
+}
+
+// The one field of one ring is moved; the other three stay.
+fn move_head(ring: &mut Ring, to: u16)
+    ensures { λ _. ⌜ now (ring .exit) ≡ withHead (now (ring .entry)) to ⌝ }
+{
+    ring.head = to;
 }
 
 // A ring with its head written, or the status that refuses it.
