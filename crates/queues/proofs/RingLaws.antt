@@ -57,6 +57,6 @@ module _ (ring : Ring) (value : ℕ) where
       unfolding newHead movedOf
       head-far k = rw (eq-eqb _ _ a, lt-ltb _ _ h, ← p, ← q, lt-leb _ _ k)
 
-      pub head-right : there ≤ last → Moved.To (withHead ring value) ≡ movedOf (newHead ring value)
+      pub head-right : there ≤ last → (next : Ring) → next ≡ withHead ring value → Moved.To next ≡ movedOf (newHead ring value)
       unfolding newHead movedOf
-      head-right k = rw (eq-eqb _ _ a, lt-ltb _ _ h, ← p, ← q, le-leb _ _ k)
+      head-right k next e = rw (e, eq-eqb _ _ a, lt-ltb _ _ h, ← p, ← q, le-leb _ _ k)

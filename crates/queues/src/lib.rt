@@ -108,6 +108,14 @@ fn move_head(ring: &mut Ring, to: u16)
     ring.head = to;
 }
 
+// The same by value: a caller that makes no reference to a ring needs no proof by hand.
+fn ring_at_head(mut ring: Ring, to: u16) -> Ring
+    ensures { λ r. ⌜ r ≡ withHead ring to ⌝ }
+{
+    move_head(&mut ring, to);
+    ring
+}
+
 // A ring with its head written, or the status that refuses it.
 enum Moved {
     Refused(Refusal),
@@ -131,8 +139,7 @@ fn head_moves(ring: Ring, value: u64) -> Moved
     if last < there {
         return Moved::Refused(Refusal::EINVAL);
     }
-    let mut next = ring;
-    next.head = value as u16;
+    let next = ring_at_head(ring, value as u16);
     Moved::To(next)
 }
 

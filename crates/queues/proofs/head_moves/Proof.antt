@@ -25,11 +25,14 @@ forward-to-requires-2 c κs = search needs
 returns-3 : tie.Need-returns-3
 returns-3 c = search head-far
 
-cast-next : tie.Need-cast-next
-cast-next c = search needs
+cast-ring-at-head : tie.Need-cast-ring-at-head
+cast-ring-at-head c = search needs
+
+ring-at-head-requires : tie.Need-ring-at-head-requires
+ring-at-head-requires c κs = search needs
 
 returns-4 : tie.Need-returns-4
-returns-4 c = head-right _ _ (c .before .before .before .before .before .before .if1 .left) (c .before .before .before .before .if2 .left) _ _ (c .before .before .before .forward-to .ensures) (c .before .forward-to2 .ensures) (c .if3 .left)
+returns-4 c = search head-right
 
 pub head-moves-spec : {M : Type 1} → statement M
 head-moves-spec =
@@ -42,5 +45,6 @@ head-moves-spec =
     cast-forward-to
     forward-to-requires-2
     returns-3
-    cast-next
+    cast-ring-at-head
+    ring-at-head-requires
     returns-4)
