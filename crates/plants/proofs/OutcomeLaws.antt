@@ -1,16 +1,21 @@
 -- From what a rule says, x, to what the code gives back: the laws of the single calls need to speak of the rule alone.
-use mathlib.Core.Path.{_≡_, ap, _∙_}
+use mathlib.Core.Path.{_≡_, refl, ap, _∙_}
 use mathlib.Core.List.{List}
 use Prim.Native.Nat.{ℕ}
+use lib.ListN.{replicate}
 use Rattle.rules.specs.declared.Extents.{Extents}
 use Rattle.rules.specs.declared.Plant.{Plant}
 use Rattle.rules.specs.declared.Refusal.{Refusal}
 use Rattle.rules.specs.declared.Answer.{Answer}
 use Rattle.rules.specs.declared.Answer.the-variants.{Refused}
+use Rattle.rules.specs.Limits.{cpuLimit}
+use Rattle.rules.specs.Kept.{blankTsbs}
 use Rattle.rules.specs.Real.{apply}
 use Rattle.rules.specs.Rulings.{Ruling, refused, Outcome, outcomeOf, says}
 use Rattle.memory.specs.Ready.{present}
-use Rattle.plants.specs.declared.Done.{Done}
+use Rattle.plants.specs.declared.change.Change.{Change}
+use Rattle.plants.specs.declared.change.Done.{Done}
+use Rattle.plants.specs.Changes.{doneBy, changedBy, plantAfter}
 use Rattle.plants.specs.Done.{quietly, saying}
 use Rattle.plants.specs.Follows.{Follows}
 
@@ -21,17 +26,23 @@ module _ (plant : Plant) (x : Ruling Outcome) where
   pub answers : (a : Answer) → x ≡ says a plant → saying plant a ≡ outcomeOf plant x
   answers a e = rw e
 
-  -- next is the code's record after, and m the rule's
-  pub changes : (a : Answer) (next m : Plant) → next ≡ m → x ≡ says a m → quietly (record { answer = a; plant = next }) ≡ outcomeOf plant x
-  changes a next m f e = rw (e, f)
+  -- d is what the code gives back
+  module _ (d : Done) where
+    pub tells : (a : Answer) → d ≡ doneBy a Change.Nothing → saying plant a ≡ outcomeOf plant x → quietly plant d ≡ outcomeOf plant x
+    unfolding plantAfter changedBy doneBy
+    tells a g e = rw g e
 
-  -- d is what another function of the code gave
-  pub tells-refusal : (d : Done) (r : Refusal) → x ≡ refused r → quietly d ≡ saying plant (Refused r) → quietly d ≡ outcomeOf plant x
-  tells-refusal d r e g = rw e g
+    pub tells-refusal : (r : Refusal) → x ≡ refused r → d ≡ doneBy (Refused r) Change.Nothing → quietly plant d ≡ outcomeOf plant x
+    tells-refusal r e g = tells (Refused r) g (refuses r e)
+
+    -- m is the rule's record after
+    pub changes : (a : Answer) (change : Change) (m : Plant) → d ≡ doneBy a change → changedBy plant blankTsbs (replicate cpuLimit 0) change ≡ m → x ≡ says a m → quietly plant d ≡ outcomeOf plant x
+    unfolding plantAfter doneBy
+    changes a change m g f e = rw (g, e, f)
 
 -- a call that writes nothing leaves the memory as it was
 module _ (extents : Extents) (plant : Plant) (x : Ruling Outcome) (m : List ℕ) (d : Done) where
-  pub quiet : quietly d ≡ outcomeOf plant x → Follows extents plant x m d m
+  pub quiet : quietly plant d ≡ outcomeOf plant x → Follows extents plant x m d m
   unfolding apply
   quiet e = record {
     answer = ap (λ (o : Outcome). o .answer) e;
@@ -39,5 +50,8 @@ module _ (extents : Extents) (plant : Plant) (x : Ruling Outcome) (m : List ℕ)
     memory = ap (λ (o : Outcome). apply (present extents) m (o .writes)) e;
   }
 
-  pub quiet-told : (a : Answer) → quietly d ≡ saying plant a → saying plant a ≡ outcomeOf plant x → Follows extents plant x m d m
-  quiet-told a p q = quiet (p ∙ q)
+  pub quiet-told : (a : Answer) → d ≡ doneBy a Change.Nothing → saying plant a ≡ outcomeOf plant x → Follows extents plant x m d m
+  quiet-told a g e = quiet (tells plant x d a g e)
+
+  pub quiet-refused : (r : Refusal) → d ≡ doneBy (Refused r) Change.Nothing → x ≡ refused r → Follows extents plant x m d m
+  quiet-refused r g e = quiet (tells-refusal plant x d r e g)

@@ -8,15 +8,16 @@ use Rattle.rules.specs.declared.Extents.{Extents}
 use Rattle.rules.specs.declared.Plant.{Plant}
 use Rattle.rules.specs.Real.{valid}
 use Rattle.rules.specs.Rulings.{Outcome}
-use Rattle.plants.specs.declared.Done.{Done}
+use Rattle.plants.specs.declared.change.Done.{Done}
+use Rattle.plants.specs.Changes.{plantAfter}
 
 -- the ranges that are valid through the extents that are there
 abbrev pub validIn : Extents → ℕ → ℕ → Bool
 validIn extents = valid (take (extents .count) (extents .list))
 
--- an answer and a record, with nothing written
-abbrev pub quietly : Done → Outcome
-quietly d = record { answer = d .answer; plant = d .plant; writes = [] }
+-- the answer and the record after, with nothing written
+abbrev pub quietly : Plant → Done → Outcome
+quietly plant d = record { answer = d .answer; plant = plantAfter plant d; writes = [] }
 
 -- an answer, with the record as it was and nothing written
 abbrev pub saying : Plant → Answer → Outcome

@@ -7,10 +7,11 @@ use Rattle.rules.specs.declared.Plant.{Plant}
 use Rattle.rules.specs.Real.{apply}
 use Rattle.rules.specs.Rulings.{Ruling, Outcome, outcomeOf}
 use Rattle.memory.specs.Ready.{present}
-use Rattle.plants.specs.declared.Done.{Done}
+use Rattle.plants.specs.declared.change.Done.{Done}
+use Rattle.plants.specs.Changes.{plantAfter}
 
 -- the answer, the plant's record and the memory after are what the ruling makes of the record and the memory before
 pub record Follows (extents : Extents) (p : Plant) (ruling : Ruling Outcome) (before : List ℕ) (d : Done) (after : List ℕ) : Type 0 where
   pub answer : d .answer ≡ outcomeOf p ruling .answer
-  pub plant : d .plant ≡ outcomeOf p ruling .plant
+  pub plant : plantAfter p d ≡ outcomeOf p ruling .plant
   pub memory : after ≡ apply (present extents) before (outcomeOf p ruling .writes)

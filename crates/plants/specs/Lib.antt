@@ -1,3 +1,4 @@
+pub mod Changes
 pub mod Done
 pub mod Follows
 pub mod Judged

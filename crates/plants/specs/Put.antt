@@ -15,7 +15,6 @@ use Rattle.memory.specs.Cells.{one}
 use Rattle.memory.specs.Ready.{present}
 use Rattle.records.specs.Sound.{RecordSound}
 use Rattle.plants.specs.declared.rings.Put.{Put as ToldPut}
-use Rattle.plants.specs.declared.rings.Sent.{Sent as Told}
 
 -- nothing is sent
 abbrev pub left : Plant → Sent
@@ -35,6 +34,11 @@ putTo plant cpu q entry (QueueRecord.Set ring) =
 
 unfoldable pub putOne : Plant → ℕ → ℕ → List ℕ → Sent
 putOne plant cpu q entry = putTo plant cpu q entry (queueAt (cpuAt plant cpu) q)
+
+-- what sending has come to, as the code gives it back
+pub record Told : Type 0 where
+  pub plant : Plant
+  pub all : Bool
 
 -- what the code gives back, and what it leaves in memory, is what was sent
 pub record Puts (extents : Extents) (sent : Sent) (before : List ℕ) (r : Told) (after : List ℕ) : Type 0 where

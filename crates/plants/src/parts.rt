@@ -1,13 +1,19 @@
-// Where a part of a plant's record is found, and the record with a part replaced.
+// Parts of a plant's record: where a queue is found, and what several cpus or sources become.
+use rules::CPUS;
+use rules::Cpu;
 use rules::Plant;
 use rules::Queue;
 use rules::QueueRecord;
+use rules::Ring;
+use rules::SOURCES;
 use rules::Source;
-use rules::TsbList;
 ghost use mathlib.Core.Path.{_≡_};
-ghost use Prim.Native.Nat.{_<_};
-ghost use Rattle.rules.specs.Limits.{cpuLimit, queueLimit, sourceLimit};
-ghost use Rattle.rules.specs.Kept.{cpuAt, queueAt, withQueue, withStatistics, withSource, withCtx0, withCtxnon0};
+ghost use mathlib.Core.List.{map};
+ghost use Prim.Native.Nat.{_<_, _≤_};
+ghost use Rattle.rules.specs.Limits.{cpuLimit, queueLimit};
+ghost use Rattle.rules.specs.Kept.{cpuAt, queueAt};
+ghost use Rattle.rules.specs.Versions.{disabled};
+ghost use Rattle.plants.specs.Changes.{atTail, cpuAtTail, withTails};
 
 // Queue q of a cpu.
 pub fn queue_at(plant: Plant, cpu: usize, q: usize) -> QueueRecord
@@ -19,60 +25,60 @@ pub fn queue_at(plant: Plant, cpu: usize, q: usize) -> QueueRecord
     queue.held
 }
 
-// Queue q of a cpu replaced.
-pub fn with_queue(plant: Plant, cpu: usize, q: usize, held: QueueRecord) -> Plant
-    requires { ⌜ (cpu < cpuLimit) × (q < queueLimit) ⌝ }
-    ensures { λ r. ⌜ r ≡ withQueue plant cpu q held ⌝ }
+// Every source disabled.
+pub fn all_disabled(source: [Source; SOURCES]) -> [Source; SOURCES]
+    ensures { λ r. ⌜ r ≡ map disabled source ⌝ }
 {
-    let mut c = plant.cpu[cpu];
-    c.queues[q] = Queue { held };
-    let mut next = plant;
-    next.cpu[cpu] = c;
+    let mut next = source;
+    let mut i = 0;
+    while i < SOURCES {
+        let mut s = next[i];
+        s.enabled = 0;
+        next[i] = s;
+        i += 1;
+    }
     next
 }
 
-// The statistics address of a cpu replaced.
-pub fn with_statistics(plant: Plant, cpu: usize, address: u64) -> Plant
-    requires { ⌜ cpu < cpuLimit ⌝ }
-    ensures { λ r. ⌜ r ≡ withStatistics plant cpu address ⌝ }
+// A ring with its tail there.
+pub fn at_tail(held: QueueRecord, tail: u16) -> QueueRecord
+    ensures { λ r. ⌜ r ≡ atTail held tail ⌝ }
 {
-    let mut c = plant.cpu[cpu];
-    c.statistics = address;
-    let mut next = plant;
-    next.cpu[cpu] = c;
+    match held {
+        QueueRecord::Unset => QueueRecord::Unset,
+        QueueRecord::Set(ring) => QueueRecord::Set(Ring {
+            base: ring.base,
+            size: ring.size,
+            head: ring.head,
+            tail,
+        }),
+    }
+}
+
+// A cpu with the tail of its 0x3c ring there.
+fn cpu_at_tail(cpu: Cpu, tail: u16) -> Cpu
+    ensures { λ r. ⌜ r ≡ cpuAtTail cpu tail ⌝ }
+{
+    let queue = cpu.queues[0];
+    let held = queue.held;
+    let after = at_tail(held, tail);
+    let mut next = cpu;
+    next.queues[0] = Queue { held: after };
     next
 }
 
-// Source i replaced.
-pub fn with_source(plant: Plant, i: usize, source: Source) -> Plant
-    requires { ⌜ i < sourceLimit ⌝ }
-    ensures { λ r. ⌜ r ≡ withSource plant i source ⌝ }
+// Each cpu that is there with the tail of its 0x3c ring where the list says.
+pub fn with_tails(plant: Plant, tails: [u16; CPUS]) -> Plant
+    requires { ⌜ plant .cpus ≤ cpuLimit ⌝ }
+    ensures { λ r. ⌜ r ≡ withTails plant tails ⌝ }
 {
+    let n = plant.cpus as usize;
     let mut next = plant;
-    next.source[i] = source;
-    next
-}
-
-// A cpu's TSB list for context 0 replaced.
-pub fn with_ctx0(plant: Plant, cpu: usize, tsbs: TsbList) -> Plant
-    requires { ⌜ cpu < cpuLimit ⌝ }
-    ensures { λ r. ⌜ r ≡ withCtx0 plant cpu tsbs ⌝ }
-{
-    let mut c = plant.cpu[cpu];
-    c.ctx0 = tsbs;
-    let mut next = plant;
-    next.cpu[cpu] = c;
-    next
-}
-
-// A cpu's TSB list for the other contexts replaced.
-pub fn with_ctxnon0(plant: Plant, cpu: usize, tsbs: TsbList) -> Plant
-    requires { ⌜ cpu < cpuLimit ⌝ }
-    ensures { λ r. ⌜ r ≡ withCtxnon0 plant cpu tsbs ⌝ }
-{
-    let mut c = plant.cpu[cpu];
-    c.ctxnon0 = tsbs;
-    let mut next = plant;
-    next.cpu[cpu] = c;
+    let mut i = 0;
+    while i < n {
+        let cpu = next.cpu[i];
+        next.cpu[i] = cpu_at_tail(cpu, tails[i]);
+        i += 1;
+    }
     next
 }

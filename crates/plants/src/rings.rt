@@ -1,6 +1,5 @@
 // An entry put into a ring.
 use rules::Extents;
-use rules::Plant;
 use rules::QueueRecord;
 use rules::Real;
 use rules::Ring;
@@ -11,12 +10,6 @@ ghost use Rattle.rules.specs.Limits.{extentLimit};
 ghost use Rattle.rules.specs.Queues.{nextTail};
 ghost use Rattle.memory.specs.Ready.{Ready, present};
 ghost use Rattle.plants.specs.Put.{putIn, PutsIn, HeldSound};
-
-// What sending has come to: the plant's record, and whether nothing was left for want of room.
-pub struct Sent {
-    pub plant: Plant,
-    pub all: bool,
-}
 
 // What putting an entry has come to: the queue's record, and whether there was a ring with room.
 pub struct Put {

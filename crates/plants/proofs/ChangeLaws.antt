@@ -1,0 +1,68 @@
+-- What each change makes of a plant's record, where the place is there.
+use mathlib.Core.Path.{_≡_, refl}
+use mathlib.Core.Bool.{true, false, true≢false}
+use mathlib.Core.List.{List}
+use Prim.Native.Nat.{ℕ, _≤_, _<_}
+use borrow.Author.Tests.{lt-ltb}
+use Rattle.rules.specs.declared.Cpu.{Cpu}
+use Rattle.rules.specs.declared.Plant.{Plant}
+use Rattle.rules.specs.declared.QueueRecord.{QueueRecord}
+use Rattle.rules.specs.declared.Source.{Source}
+use Rattle.rules.specs.declared.TsbList.{TsbList}
+use Rattle.rules.specs.declared.Versions.{Versions}
+use Rattle.rules.specs.Limits.{cpuLimit, queueLimit, sourceLimit}
+use Rattle.rules.specs.Kept.{withVersions, withQueue, withStatistics, withSource, withCtx0, withCtxnon0}
+use Rattle.rules.specs.Versions.{allDisabled}
+use Rattle.plants.specs.declared.change.Change.{Change}
+use Rattle.plants.specs.declared.change.CpuChange.{CpuChange}
+use Rattle.plants.specs.declared.change.Done.{Done}
+use Rattle.plants.specs.Changes.{changing, changedBy, cpuAfter, plantAfter}
+
+module _ (plant : Plant) (tsbs : TsbList) (tails : List ℕ) where
+  pub versions-after : (v : Versions) → changedBy plant tsbs tails (Change.Versions v) ≡ withVersions plant v
+  unfolding changedBy
+  versions-after v = refl
+
+  pub disabled-after : (v : Versions) → changedBy plant tsbs tails (Change.Disabled v) ≡ allDisabled (withVersions plant v)
+  unfolding changedBy
+  disabled-after v = refl
+
+  pub source-after : (i : ℕ) (s : Source) → i < sourceLimit → changedBy plant tsbs tails (Change.Source i s) ≡ withSource plant i s
+  unfolding changedBy
+  source-after i s h = rw (lt-ltb _ _ h)
+
+  module _ (c : ℕ) (h : c < cpuLimit) where
+    pub queue-after : (q : ℕ) (held : QueueRecord) → q < queueLimit → changedBy plant tsbs tails (Change.Cpu c (CpuChange.Queue q held)) ≡ withQueue plant c q held
+    unfolding changedBy cpuAfter withQueue
+    queue-after q held k = rw (lt-ltb _ _ h, lt-ltb _ _ k)
+
+    pub statistics-after : (a : ℕ) → changedBy plant tsbs tails (Change.Cpu c (CpuChange.Statistics a)) ≡ withStatistics plant c a
+    unfolding changedBy cpuAfter withStatistics
+    statistics-after a = rw (lt-ltb _ _ h)
+
+    pub ctx0-after : changedBy plant tsbs tails (Change.Cpu c CpuChange.Ctx0) ≡ withCtx0 plant c tsbs
+    unfolding changedBy cpuAfter withCtx0
+    ctx0-after = rw (lt-ltb _ _ h)
+
+    pub ctxnon0-after : changedBy plant tsbs tails (Change.Cpu c CpuChange.Ctxnon0) ≡ withCtxnon0 plant c tsbs
+    unfolding changedBy cpuAfter withCtxnon0
+    ctxnon0-after = rw (lt-ltb _ _ h)
+
+    -- a source and the 0x3d queue of a cpu
+    pub delivered-after : (i : ℕ) (s : Source) (held : QueueRecord) → i < sourceLimit → changedBy plant tsbs tails (Change.Delivered i s c held) ≡ withSource (withQueue plant c 1 held) i s
+    unfolding changedBy
+    delivered-after i s held k = rw (lt-ltb _ _ h, lt-ltb _ _ k)
+
+-- what is no change leaves the record as it was
+pub same-after : (plant : Plant) (d : Done) → changing (d .change) ≡ false → plantAfter plant d ≡ plant
+unfolding plantAfter changing changedBy
+same-after plant d e = go (d .change) e
+  where
+    go : (x : Change) → changing x ≡ false → changedBy plant (d .tsbs) (d .tails) x ≡ plant
+    go Change.Nothing e = refl
+    go (Change.Versions v) e = absurd (true≢false e)
+    go (Change.Disabled v) e = absurd (true≢false e)
+    go (Change.Cpu c part) e = absurd (true≢false e)
+    go (Change.Source i s) e = absurd (true≢false e)
+    go (Change.Delivered i s c held) e = absurd (true≢false e)
+    go Change.Tails e = absurd (true≢false e)
