@@ -2,6 +2,7 @@
 use mathlib.Core.Path.{_≡_, sym, _∙_}
 use mathlib.Core.Bool.{Bool, true, false}
 use Prim.Native.Nat.{ℕ, _-_, _*_, _/_, _≤_, _<_}
+use native.Mathlib.Omega.{arith}
 use borrow.Author.Tests.{le-leb, lt-leb, eq-eqb, ne-eqb}
 use Rattle.rules.specs.declared.Plant.{Plant}
 use Rattle.rules.specs.declared.Ring.{Ring}
@@ -9,6 +10,7 @@ use Rattle.rules.specs.declared.QueueRecord.{QueueRecord}
 use Rattle.rules.specs.declared.Refusal.{Refusal}
 use Rattle.rules.specs.declared.Refusal.the-variants.{EINVAL}
 use Rattle.rules.specs.declared.Answer.the-variants.{Two}
+use Rattle.rules.specs.Limits.{queueLimit}
 use Rattle.rules.specs.Kept.{cpuAt, queueAt, withQueue}
 use Rattle.rules.specs.Rulings.{refused, says, done, _grants_}
 use Rattle.rules.specs.Queues.{isQueue, newRing, cpu-qconf, cpu-qinfo, write-head}
@@ -30,6 +32,10 @@ module _ (queue : ℕ) where
 
   pub queue-right : 0x3c ≤ queue → queue ≤ 0x3f → isQueue queue ≡ true
   queue-right a b = rw (le-leb 0x3c queue a, le-leb queue 0x3f b)
+
+  -- its place in the cpu's record
+  pub queue-place : 0x3c ≤ queue → queue ≤ 0x3f → queue - 0x3c < queueLimit
+  queue-place a b = omega arith
 
 -- 0x14
 module _ (v : ℕ → ℕ → Bool) (plant : Plant) (cpu queue base n : ℕ) where

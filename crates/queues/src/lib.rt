@@ -1,7 +1,10 @@
 // Queues: 0x14, 0x15, 0x16 and the head write.
+use plants::Change;
+use plants::CpuChange;
 use plants::Done;
+use plants::done_by;
 use plants::queue_at;
-use plants::with_queue;
+use plants::told;
 use records::Verdict;
 use rules::Answer;
 use rules::Extents;
@@ -16,40 +19,35 @@ ghost use Rattle.rules.specs.Rulings.{outcomeOf};
 ghost use Rattle.rules.specs.declared.Plant.{Plant as PlantRecord};
 ghost use Rattle.rules.specs.Kept.{cpuAt, queueAt, withHead};
 ghost use Rattle.rules.specs.Queues.{forward, cpu-qconf, cpu-qinfo, cpu-myid, write-head};
+ghost use Rattle.plants.specs.Changes.{doneBy};
 ghost use Rattle.plants.specs.Done.{quietly, saying, validIn};
 ghost use Rattle.queues.specs.Rings.{PlacesIn, PlacesSound, newHead, movedOf};
+
+// Queue q of a cpu holds another record.
+fn held_now(cpu: usize, q: usize, held: QueueRecord) -> Done
+    ensures { λ r. ⌜ r ≡ doneBy Answer.Done (Change.Cpu cpu (CpuChange.Queue q held)) ⌝ }
+{
+    done_by(Answer::Done, Change::Cpu(cpu, CpuChange::Queue(q, held)))
+}
 
 // 0x14: a queue's ring is set, or with n = 0 unset.
 pub fn cpu_qconf(extents: Extents, plant: Plant, cpu: usize, queue: u64, base: u64, n: u64) -> Done
     requires { ⌜ (extents .count ≤ extentLimit) × (cpu < cpuLimit) ⌝ }
-    ensures { λ r. ⌜ quietly r ≡ outcomeOf plant (cpu-qconf (validIn extents) plant cpu queue base n) ⌝ }
+    ensures { λ r. ⌜ quietly plant r ≡ outcomeOf plant (cpu-qconf (validIn extents) plant cpu queue base n) ⌝ }
 {
     if queue < 0x3c {
-        return Done {
-            answer: Answer::Refused(Refusal::EINVAL),
-            plant,
-        };
+        return told(Answer::Refused(Refusal::EINVAL));
     }
     if 0x3f < queue {
-        return Done {
-            answer: Answer::Refused(Refusal::EINVAL),
-            plant,
-        };
+        return told(Answer::Refused(Refusal::EINVAL));
     }
     let q = (queue - 0x3c) as usize;
     if n == 0 {
-        let next = with_queue(plant, cpu, q, QueueRecord::Unset);
-        return Done {
-            answer: Answer::Done,
-            plant: next,
-        };
+        return held_now(cpu, q, QueueRecord::Unset);
     }
     let verdict = records::judge_ring(extents, base, n);
     match verdict {
-        Verdict::Refused(r) => Done {
-            answer: Answer::Refused(r),
-            plant,
-        },
+        Verdict::Refused(r) => told(Answer::Refused(r)),
         Verdict::Right => {
             let ring = Ring {
                 base,
@@ -57,11 +55,7 @@ pub fn cpu_qconf(extents: Extents, plant: Plant, cpu: usize, queue: u64, base: u
                 head: 0,
                 tail: 0,
             };
-            let next = with_queue(plant, cpu, q, QueueRecord::Set(ring));
-            Done {
-                answer: Answer::Done,
-                plant: next,
-            }
+            held_now(cpu, q, QueueRecord::Set(ring))
         }
     }
 }
@@ -146,40 +140,22 @@ fn head_moves(ring: Ring, value: u64) -> Moved
 // The head write: it moves the one field of one ring.
 pub fn write_head(plant: Plant, cpu: usize, queue: u64, value: u64) -> Done
     requires { ⌜ (cpu < cpuLimit) × (queue ≤ 0x3f → PlacesSound (queueAt (cpuAt plant cpu) (queue - 0x3c))) ⌝ }
-    ensures { λ r. ⌜ quietly r ≡ outcomeOf plant (write-head plant cpu queue value) ⌝ }
+    ensures { λ r. ⌜ quietly plant r ≡ outcomeOf plant (write-head plant cpu queue value) ⌝ }
 {
     if queue < 0x3c {
-        return Done {
-            answer: Answer::Refused(Refusal::EINVAL),
-            plant,
-        };
+        return told(Answer::Refused(Refusal::EINVAL));
     }
     if 0x3f < queue {
-        return Done {
-            answer: Answer::Refused(Refusal::EINVAL),
-            plant,
-        };
+        return told(Answer::Refused(Refusal::EINVAL));
     }
     let q = (queue - 0x3c) as usize;
     let held = queue_at(plant, cpu, q);
     let QueueRecord::Set(ring) = held else {
-        return Done {
-            answer: Answer::Refused(Refusal::EINVAL),
-            plant,
-        };
+        return told(Answer::Refused(Refusal::EINVAL));
     };
     let moved = head_moves(ring, value);
     match moved {
-        Moved::Refused(r) => Done {
-            answer: Answer::Refused(r),
-            plant,
-        },
-        Moved::To(after) => {
-            let next = with_queue(plant, cpu, q, QueueRecord::Set(after));
-            Done {
-                answer: Answer::Done,
-                plant: next,
-            }
-        }
+        Moved::Refused(r) => told(Answer::Refused(r)),
+        Moved::To(after) => held_now(cpu, q, QueueRecord::Set(after)),
     }
 }
