@@ -5,11 +5,13 @@ use lib.Dec.{eqb}
 use lib.ListN.{replicate}
 use Rattle.rules.specs.declared.Answer.the-variants.{One}
 use Rattle.rules.specs.declared.Plant.{Plant}
-use Rattle.rules.specs.Kept.{cpuAt, queueAt, sourceAt, withSource, withState}
+use Rattle.rules.specs.Kept.{cpuAt, queueAt, sourceAt, withState}
 use Rattle.rules.specs.Real.{wordBytes}
 use Rattle.rules.specs.Rulings.{Ruling, granted, Outcome, if_then_else_}
 use Rattle.rules.specs.Sources.{devMondo, deliverTo}
-use Rattle.plants.specs.declared.Done.{Done}
+use Rattle.plants.specs.declared.change.Change.{Change}
+use Rattle.plants.specs.declared.change.Done.{Done}
+use Rattle.plants.specs.Changes.{doneBy}
 
 -- word 0 of an entry
 unfoldable pub deviceWord : Plant → ℕ → ℕ
@@ -21,7 +23,7 @@ entryOf word = wordBytes word ++ replicate 56 0
 
 -- the state of source i is set, and answered
 unfoldable pub becoming : Plant → ℕ → ℕ → Done
-becoming plant i state = record { answer = One state; plant = withSource plant i (withState (sourceAt plant i) state) }
+becoming plant i state = doneBy (One state) (Change.Source i (withState (sourceAt plant i) state))
 
 -- the entry of source i to the 0x3d ring of a cpu
 unfoldable pub delivering : Plant → ℕ → ℕ → Ruling Outcome

@@ -1,8 +1,9 @@
 // Raise: a device interrupts.
+use plants::Change;
 use plants::Done;
+use plants::done_by;
 use plants::put_entry;
-use plants::with_queue;
-use plants::with_source;
+use plants::told;
 use rules::Answer;
 use rules::Extents;
 use rules::Plant;
@@ -45,11 +46,7 @@ fn becomes(plant: Plant, i: usize, state: u8) -> Done
 {
     let mut source = plant.source[i];
     source.state = state;
-    let next = with_source(plant, i, source);
-    Done {
-        answer: Answer::One(state as u64),
-        plant: next,
-    }
+    done_by(Answer::One(state as u64), Change::Source(i, source))
 }
 
 // An entry for source i at the tail of a cpu's 0x3d ring, if it has room.
@@ -67,8 +64,9 @@ fn deliver(extents: Extents, plant: Plant, mem: &mut [u8], i: usize, cpu: usize)
         return becomes(plant, i, 1);
     }
     let after = put.held;
-    let next = with_queue(plant, cpu, 1, after);
-    becomes(next, i, 2)
+    let mut source = plant.source[i];
+    source.state = 2;
+    done_by(Answer::One(2), Change::Delivered(i, source, cpu, after))
 }
 
 // The source at position i is raised: delivered stays; enabled, with a target, it goes there; else it is received.
@@ -79,10 +77,7 @@ pub fn raise_at(extents: Extents, plant: Plant, mem: &mut [u8], i: usize) -> Don
 {
     let source = plant.source[i];
     if source.state == 2 {
-        return Done {
-            answer: Answer::One(2),
-            plant,
-        };
+        return told(Answer::One(2));
     }
     if source.enabled != 1 {
         return becomes(plant, i, 1);

@@ -1,7 +1,7 @@
 -- `raise::deliver` meets its contract: each return is the rule's case, by what was put.
 use native.Mathlib.Omega.{arith}
 use borrow.Author.Needs.{needs}
-use Rattle.raise.proofs.RaiseLaws.{deliver-full, deliver-done}
+use Rattle.raise.proofs.RaiseLaws.{cpu-below, deliver-full, deliver-done}
 use Rattle.raise.proofs.deliver.Statement.{statement}
 use Rattle.raise.proofs.deliver.Tie as tie
 
@@ -34,20 +34,20 @@ same-length c = search needs
 returns : tie.Need-returns
 returns c = search deliver-full
 
-with-queue-requires : tie.Need-with-queue-requires
-with-queue-requires c κs = search needs
+mul-source : tie.Need-mul-source
+mul-source c = search needs
 
-becomes-requires-2 : tie.Need-becomes-requires-2
-becomes-requires-2 c κs = search needs
+element-copy-out-source : tie.Need-element-copy-out-source
+element-copy-out-source c = search needs
+
+done-by-requires : tie.Need-done-by-requires
+done-by-requires c κs = search needs
 
 same-length-2 : tie.Need-same-length-2
 same-length-2 c = search needs
 
 returns-2 : tie.Need-returns-2
-returns-2 c =
-    let p = c .before .before .before .before .before .before in
-    let e = p .before .before .before .before .before in
-    deliver-done _ _ _ _ _ _ _ (e .before .device-word .ensures) (e .entry-of .ensures) (p .put-entry .result) _ (p .put-entry .ensures) _ _ (c .before .before .if1 .left) (c .before .with-queue .ensures) (c .becomes2 .ensures)
+returns-2 c = search (deliver-done, cpu-below)
 
 pub deliver-spec : {M : Type 1} → statement M
 deliver-spec =
@@ -62,7 +62,8 @@ deliver-spec =
     becomes-requires
     same-length
     returns
-    with-queue-requires
-    becomes-requires-2
+    mul-source
+    element-copy-out-source
+    done-by-requires
     same-length-2
     returns-2)

@@ -11,6 +11,9 @@ mul-source c = search needs
 element-copy-out-source : tie.Need-element-copy-out-source
 element-copy-out-source c = search needs
 
+told-requires : tie.Need-told-requires
+told-requires c κs = search needs
+
 returns : tie.Need-returns
 returns c = search raise-stays
 
@@ -53,6 +56,7 @@ raise-at-spec =
     (tie.spec
     mul-source
     element-copy-out-source
+    told-requires
     returns
     becomes-requires
     returns-2
