@@ -23,10 +23,12 @@ use Rattle.records.specs.declared.Verdict.{Verdict}
 use Rattle.records.specs.declared.Verdict.the-variants.{Right, Refused as Told}
 use Rattle.records.specs.Verdict.{verdictOf}
 use Rattle.records.proofs.Told.{told-refused, told-then}
-use Rattle.plants.specs.declared.Done.{Done}
+use Rattle.plants.specs.declared.change.Change.{Change}
+use Rattle.plants.specs.declared.change.Done.{Done}
+use Rattle.plants.specs.Changes.{doneBy}
 use Rattle.plants.specs.Done.{quietly, saying}
 use Rattle.plants.specs.Follows.{Follows}
-use Rattle.plants.proofs.OutcomeLaws.{quiet}
+use Rattle.plants.proofs.OutcomeLaws.{tells, quiet-told}
 use Rattle.calls.specs.Dispatch.{sysinoRule}
 
 -- a refusal is not right
@@ -65,9 +67,9 @@ perform-as extents plant s c m after d f g e p = rw e p
 
 -- a call whose function may not be called, and one whose function may: v is what the code was told of it
 module _ (extents : Extents) (plant : Plant) (s : Sight) (c : Call) (m : List ℕ) (d : Done) (f : Function) (v : Verdict) (p : f ≡ functionOf (c .trap) (c .function)) (q : v ≡ verdictOf (admitted (plant .versions) f)) where
-  pub call-refused : (r : Refusal) → v ≡ Told r → quietly d ≡ saying plant (Refused r) → Follows extents plant (call s plant c) m d m
+  pub call-refused : (r : Refusal) → v ≡ Told r → d ≡ doneBy (Refused r) Change.Nothing → Follows extents plant (call s plant c) m d m
   unfolding call
-  call-refused r e g = quiet extents plant (call s plant c) m d (g ∙ rw (← p, told-refused (admitted (plant .versions) f) r (sym q ∙ e)))
+  call-refused r e g = quiet-told extents plant (call s plant c) m d (Refused r) g (rw (← p, told-refused (admitted (plant .versions) f) r (sym q ∙ e)))
 
   pub call-performed : (after : List ℕ) → v ≡ Right → Follows extents plant (perform s plant c f) m d after → Follows extents plant (call s plant c) m d after
   unfolding call
@@ -75,10 +77,10 @@ module _ (extents : Extents) (plant : Plant) (s : Sight) (c : Call) (m : List �
 
 -- 0xa0 and the functions behind it
 module _ (plant : Plant) (c : Call) (n : ℕ) (d : Done) where
-  pub sysino-first : (a : Answer) → n ≡ 0xa0 → saying plant a ≡ outcomeOf plant (intr-devino2sysino plant (c .arg0) (c .arg1)) → quietly d ≡ saying plant a → quietly d ≡ outcomeOf plant (sysinoRule plant c n)
+  pub sysino-first : (a : Answer) → n ≡ 0xa0 → saying plant a ≡ outcomeOf plant (intr-devino2sysino plant (c .arg0) (c .arg1)) → d ≡ doneBy a Change.Nothing → quietly plant d ≡ outcomeOf plant (sysinoRule plant c n)
   unfolding sysinoRule
-  sysino-first a e p q = rw (eq-eqb n 0xa0 e) (q ∙ p)
+  sysino-first a e p q = tells plant (sysinoRule plant c n) d a q (rw (eq-eqb n 0xa0 e) p)
 
-  pub sysino-later : (n ≡ 0xa0 → ⊥) → quietly d ≡ outcomeOf plant (intr plant n (c .arg0) (c .arg1)) → quietly d ≡ outcomeOf plant (sysinoRule plant c n)
+  pub sysino-later : (n ≡ 0xa0 → ⊥) → quietly plant d ≡ outcomeOf plant (intr plant n (c .arg0) (c .arg1)) → quietly plant d ≡ outcomeOf plant (sysinoRule plant c n)
   unfolding sysinoRule
   sysino-later h p = rw (ne-eqb n 0xa0 h) p

@@ -23,11 +23,13 @@ use Rattle.rules.specs.Queues.{write-head}
 use Rattle.rules.specs.Sources.{sysinoOf, raise, raiseAt}
 use Rattle.rules.specs.Host.{plantRule}
 use Rattle.records.specs.Sound.{RecordSound, Sound}
-use Rattle.plants.specs.declared.Done.{Done}
-use Rattle.plants.specs.Done.{quietly, saying}
+use Rattle.plants.specs.declared.change.Change.{Change}
+use Rattle.plants.specs.declared.change.Done.{Done}
+use Rattle.plants.specs.Changes.{doneBy}
+use Rattle.plants.specs.Done.{quietly}
 use Rattle.plants.specs.Follows.{Follows}
 use Rattle.queues.specs.Rings.{PlacesSound}
-use Rattle.plants.proofs.OutcomeLaws.{quiet}
+use Rattle.plants.proofs.OutcomeLaws.{quiet, quiet-told}
 
 -- a ring that is sound holds its head and its tail
 places-sound : (v : ℕ → ℕ → _) (held : QueueRecord) → RecordSound v held → PlacesSound held
@@ -39,27 +41,27 @@ head-places extents plant n cpu queue s h l = places-sound _ (queueAt (cpuAt pla
 
 module _ (extents : Extents) (plant : Plant) (s : Sight) (m : List ℕ) (d : Done) where
   module _ (c : Call) where
-    pub call-nobody : plant .cpus ≤ c .cpu → quietly d ≡ saying plant (Refused NoCaller) → Follows extents plant (plantRule s plant (Event.Call c)) m d m
+    pub call-nobody : plant .cpus ≤ c .cpu → d ≡ doneBy (Refused NoCaller) Change.Nothing → Follows extents plant (plantRule s plant (Event.Call c)) m d m
     unfolding plantRule
-    call-nobody h g = quiet extents plant (plantRule s plant (Event.Call c)) m d (g ∙ rw (le-ltb (c .cpu) (plant .cpus) h))
+    call-nobody h g = quiet-told extents plant (plantRule s plant (Event.Call c)) m d (Refused NoCaller) g (rw (le-ltb (c .cpu) (plant .cpus) h))
 
     pub call-cpu : (after : List ℕ) → c .cpu < plant .cpus → Follows extents plant (call s plant c) m d after → Follows extents plant (plantRule s plant (Event.Call c)) m d after
     unfolding plantRule
     call-cpu after h g = rw (lt-ltb (c .cpu) (plant .cpus) h) g
 
   module _ (w : HeadWrite) where
-    pub head-nobody : plant .cpus ≤ w .cpu → quietly d ≡ saying plant (Refused NoCaller) → Follows extents plant (plantRule s plant (Event.Head w)) m d m
+    pub head-nobody : plant .cpus ≤ w .cpu → d ≡ doneBy (Refused NoCaller) Change.Nothing → Follows extents plant (plantRule s plant (Event.Head w)) m d m
     unfolding plantRule
-    head-nobody h g = quiet extents plant (plantRule s plant (Event.Head w)) m d (g ∙ rw (le-ltb (w .cpu) (plant .cpus) h))
+    head-nobody h g = quiet-told extents plant (plantRule s plant (Event.Head w)) m d (Refused NoCaller) g (rw (le-ltb (w .cpu) (plant .cpus) h))
 
-    pub head-cpu : w .cpu < plant .cpus → quietly d ≡ outcomeOf plant (write-head plant (w .cpu) (w .queue) (w .value)) → Follows extents plant (plantRule s plant (Event.Head w)) m d m
+    pub head-cpu : w .cpu < plant .cpus → quietly plant d ≡ outcomeOf plant (write-head plant (w .cpu) (w .queue) (w .value)) → Follows extents plant (plantRule s plant (Event.Head w)) m d m
     unfolding plantRule
     head-cpu h g = quiet extents plant (plantRule s plant (Event.Head w)) m d (g ∙ rw (lt-ltb (w .cpu) (plant .cpus) h))
 
   module _ (v : Device) (f : Found) (p : f ≡ sysinoOf plant (v .devhandle) (v .devino)) where
-    pub raise-nothing : f ≡ Found.Nothing → quietly d ≡ saying plant (Refused NoSource) → Follows extents plant (plantRule s plant (Event.Raise v)) m d m
+    pub raise-nothing : f ≡ Found.Nothing → d ≡ doneBy (Refused NoSource) Change.Nothing → Follows extents plant (plantRule s plant (Event.Raise v)) m d m
     unfolding plantRule raise
-    raise-nothing e g = quiet extents plant (plantRule s plant (Event.Raise v)) m d (g ∙ rw (← p, e))
+    raise-nothing e g = quiet-told extents plant (plantRule s plant (Event.Raise v)) m d (Refused NoSource) g (rw (← p, e))
 
     pub raise-there : (after : List ℕ) (i : ℕ) → f ≡ Found.At i → Follows extents plant (raiseAt plant i) m d after → Follows extents plant (plantRule s plant (Event.Raise v)) m d after
     unfolding plantRule raise

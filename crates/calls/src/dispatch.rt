@@ -42,11 +42,11 @@ ghost use Rattle.calls.specs.Dispatch.{sysinoRule};
 // 0xa0 to 0xa6.
 fn sysino_call(plant: Plant, c: Call, function: u64) -> Done
     requires { ⌜ plant .sources ≤ sourceLimit ⌝ }
-    ensures { λ r. ⌜ quietly r ≡ outcomeOf plant (sysinoRule plant c function) ⌝ }
+    ensures { λ r. ⌜ quietly plant r ≡ outcomeOf plant (sysinoRule plant c function) ⌝ }
 {
     if function == 0xa0 {
         let answer = intr_devino2sysino(plant, c.arg0, c.arg1);
-        return told(plant, answer);
+        return told(answer);
     }
     intr(plant, function, c.arg0, c.arg1)
 }
@@ -58,30 +58,30 @@ fn perform(extents: Extents, plant: Plant, mem: &mut [u8], c: Call, f: Function)
 {
     let cpu = c.cpu as usize;
     match f {
-        Function::Unknown => told(plant, Answer::Refused(Refusal::EBADTRAP)),
+        Function::Unknown => told(Answer::Refused(Refusal::EBADTRAP)),
         Function::SetVersion => set_version(plant, c.arg0, c.arg1),
         Function::GetVersion => {
             let answer = get_version(plant, c.arg0);
-            told(plant, answer)
+            told(answer)
         }
         Function::CpuQconf => cpu_qconf(extents, plant, cpu, c.arg0, c.arg1, c.arg2),
         Function::CpuQinfo => {
             let answer = cpu_qinfo(plant, cpu, c.arg0);
-            told(plant, answer)
+            told(answer)
         }
         Function::CpuMyid => {
             let answer = cpu_myid(cpu);
-            told(plant, answer)
+            told(answer)
         }
         Function::CpuMondoSend => cpu_mondo_send(extents, plant, mem, cpu, c.arg0, c.arg1, c.arg2),
-        Function::MmuTsbCtx0 => mmu_tsb_ctx0(extents, plant, mem, cpu, c.arg0, c.arg1),
-        Function::MmuTsbCtxnon0 => mmu_tsb_ctxnon0(extents, plant, mem, cpu, c.arg0, c.arg1),
-        Function::MemScrub => mem_scrub(extents, plant, mem, c.arg0, c.arg1),
-        Function::MemSync => mem_sync(extents, plant, c.arg0, c.arg1),
+        Function::MmuTsbCtx0 => mmu_tsb_ctx0(extents, mem, cpu, c.arg0, c.arg1),
+        Function::MmuTsbCtxnon0 => mmu_tsb_ctxnon0(extents, mem, cpu, c.arg0, c.arg1),
+        Function::MemScrub => mem_scrub(extents, mem, c.arg0, c.arg1),
+        Function::MemSync => mem_sync(extents, c.arg0, c.arg1),
         Function::MmustatConf => mmustat_conf(extents, plant, cpu, c.arg0),
         Function::MmustatInfo => {
             let answer = mmustat_info(plant, cpu);
-            told(plant, answer)
+            told(answer)
         }
         Function::Sysino(function) => sysino_call(plant, c, function),
         Function::Cookie(function) => vintr(plant, function, c.arg0, c.arg1, c.arg2),
@@ -98,6 +98,6 @@ pub fn call(extents: Extents, plant: Plant, mem: &mut [u8], c: Call) -> Done
     let verdict = admission(versions, f);
     match verdict {
         Verdict::Right => perform(extents, plant, mem, c, f),
-        Verdict::Refused(r) => told(plant, Answer::Refused(r)),
+        Verdict::Refused(r) => told(Answer::Refused(r)),
     }
 }

@@ -30,7 +30,7 @@ fn plant_call(extents: Extents, plant: Plant, mem: &mut [u8], c: Call) -> Done
     ensures { λ r. ⌜ Follows extents plant (plantRule (sightOf (present extents) (now (mem .entry))) plant (Event.Call c)) (now (mem .entry)) r (now (mem .exit)) ⌝ }
 {
     if plant.cpus as u64 <= c.cpu {
-        return told(plant, Answer::Refused(Refusal::NoCaller));
+        return told(Answer::Refused(Refusal::NoCaller));
     }
     call(extents, plant, mem, c)
 }
@@ -40,7 +40,7 @@ fn plant_head(extents: Extents, plant: Plant, mem: &[u8], h: HeadWrite) -> Done
     ensures { λ r. ⌜ Follows extents plant (plantRule (sightOf (present extents) (now (mem .entry))) plant (Event.Head h)) (now (mem .entry)) r (now (mem .entry)) ⌝ }
 {
     if plant.cpus as u64 <= h.cpu {
-        return told(plant, Answer::Refused(Refusal::NoCaller));
+        return told(Answer::Refused(Refusal::NoCaller));
     }
     write_head(plant, h.cpu as usize, h.queue, h.value)
 }
@@ -50,7 +50,7 @@ fn plant_raise(extents: Extents, plant: Plant, mem: &mut [u8], d: Device) -> Don
     ensures { λ r. ⌜ Follows extents plant (plantRule (sightOf (present extents) (now (mem .entry))) plant (Event.Raise d)) (now (mem .entry)) r (now (mem .exit)) ⌝ }
 {
     match sysino_of(plant, d.devhandle, d.devino) {
-        Found::Nothing => told(plant, Answer::Refused(Refusal::NoSource)),
+        Found::Nothing => told(Answer::Refused(Refusal::NoSource)),
         Found::At(i) => raise_at(extents, plant, mem, i),
     }
 }
@@ -63,7 +63,7 @@ pub fn plant_event(extents: Extents, plant: Plant, mem: &mut [u8], event: Event)
         Event::Call(c) => plant_call(extents, plant, mem, c),
         Event::Head(h) => plant_head(extents, plant, mem, h),
         Event::Raise(d) => plant_raise(extents, plant, mem, d),
-        Event::Load(l) => load_word(extents, plant, mem, l.address),
-        Event::Store(s) => store_word(extents, plant, mem, s.address, s.value),
+        Event::Load(l) => load_word(extents, mem, l.address),
+        Event::Store(s) => store_word(extents, mem, s.address, s.value),
     }
 }

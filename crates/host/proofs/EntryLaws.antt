@@ -24,7 +24,8 @@ use Rattle.records.proofs.SoundLaws.{plant-sources}
 use Rattle.records.specs.declared.Verdict.{Verdict}
 use Rattle.records.specs.Verdict.{isRight}
 use Rattle.records.specs.Sound.{Sound}
-use Rattle.plants.specs.declared.Done.{Done}
+use Rattle.plants.specs.declared.change.Done.{Done}
+use Rattle.plants.specs.Changes.{plantAfter}
 use Rattle.plants.specs.Follows.{Follows}
 use Rattle.host.specs.declared.Settled.{Settled}
 use Rattle.host.specs.declared.entry.Seat.{Seat}
@@ -159,7 +160,7 @@ module _ (tables : Tables) (m : List ℕ) (event : Event) where
   -- the owner's plant answered
   pub seat-follows : (g : ℕ) (d : Done) (after : List ℕ) → seatOf tables entry event ≡ Seat.Guest g
       → Follows (guestAt tables g .extents) (plantAt tables g) (plantRule (sightOf (extentsOf tables g) m) (plantAt tables g) event) m d after
-      → hostEvent tables m event ≡ record { answer = d .answer; tables = withPlant tables g (d .plant); memory = after }
+      → hostEvent tables m event ≡ record { answer = d .answer; tables = withPlant tables g (plantAfter (plantAt tables g) d); memory = after }
   seat-follows g d after s f =
       seat-answers g s ∙ (λ i. record { answer = sym (f .answer) i; tables = withPlant tables g (sym (f .plant) i); memory = sym (f .memory) i })
 
@@ -185,5 +186,5 @@ module _ (tables : Tables) (m : List ℕ) (e : Verdict) (p : e ≡ entryOf table
 
   pub settles-answered : (g : ℕ) → x ≡ Seat.Guest g → (d : Done) (after : List ℕ)
       → Follows (guestAt tables g .extents) (plantAt tables g) (plantRule (sightOf (extentsOf tables g) m) (plantAt tables g) event) m d after
-      → s .answer ≡ d .answer → s .tables ≡ withPlant tables g (d .plant) → Settles (hostEvent tables m event) s after
+      → s .answer ≡ d .answer → s .tables ≡ withPlant tables g (plantAfter (plantAt tables g) d) → Settles (hostEvent tables m event) s after
   settles-answered g h d after f a t = rw (seat-follows tables m event g d after (sym (seat-is tables (length m) e p event x q) ∙ h) f) (record { answer = a; tables = t; memory = refl })

@@ -7,6 +7,7 @@ mod put;
 pub use entry::Seat;
 pub use entry::entry_of;
 pub use entry::seat_of;
+use plants::plant_after;
 use put::with_plant;
 use rules::Answer;
 use rules::Event;
@@ -43,7 +44,7 @@ pub fn event(tables: Tables, mem: &mut [u8], event: Event) -> Settled
             let plant = guest.plant;
             let done = calls::plant_event(extents, plant, mem, event);
             let answer = done.answer;
-            let after = done.plant;
+            let after = plant_after(plant, done);
             Settled {
                 answer,
                 tables: with_plant(tables, i, after),

@@ -23,14 +23,17 @@ fn has_source(plant: Plant, d: Device) -> bool
     }
 }
 
-// A raise belongs to the guest that has the source.
+// A raise belongs to the guest that has the source. A loop of GUESTS turns lets the compiler read the guests where they are.
 fn raise_owner(guests: u8, guest: [Guest; GUESTS], d: Device) -> Owner
     requires { ⌜ Counted guests guest ⌝ }
     ensures { λ r. ⌜ r ≡ raiseOwner guests guest d ⌝ }
 {
     let count = guests as usize;
     let mut g = 0;
-    while g < count {
+    while g < GUESTS {
+        if count <= g {
+            return Owner::Nobody;
+        }
         let at = guest[g];
         let plant = at.plant;
         if has_source(plant, d) {

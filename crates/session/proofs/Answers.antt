@@ -1,17 +1,19 @@
 -- What each thing that a line can ask for comes to.
 use mathlib.Core.Path.{_≡_, refl, sym, ap, _∙_}
-use mathlib.Core.Bool.{true}
+use mathlib.Core.Bool.{true, false}
 use mathlib.Core.List.{List, [], _∷_, _++_}
 use Prim.Native.Nat.{ℕ, _<_}
 use native.Mathlib.Omega.{arith}
 use lib.ListN.{length, take}
+use lib.Seq.{set-getD}
 use Rattle.rules.specs.declared.Answer.{Answer}
 use Rattle.rules.specs.declared.Event.{Event}
 use Rattle.rules.specs.declared.Loaded.{Loaded}
+use Rattle.rules.specs.declared.Plant.{Plant}
 use Rattle.rules.specs.declared.Refusal.{Refusal}
 use Rattle.rules.specs.declared.Tables.{Tables}
 use Rattle.rules.specs.Limits.{guestLimit}
-use Rattle.rules.specs.Kept.{guestAt, plantAt, extentsOf, withPlant}
+use Rattle.rules.specs.Kept.{hollowGuest, guestAt, plantAt, extentsOf, withPlant}
 use Rattle.rules.specs.Real.{sightOf}
 use Rattle.rules.specs.Statuses.{numbers}
 use Rattle.rules.specs.Image.{load}
@@ -21,10 +23,12 @@ use Rattle.rules.specs.Text.{Line, bad, image, event, parse, lineFeed, badWord,
 use Rattle.rules.specs.Session.{Session, afterEvent, answered}
 use Rattle.records.specs.declared.Verdict.{Verdict}
 use Rattle.records.specs.Sound.{Sound}
-use Rattle.plants.specs.declared.Done.{Done}
+use Rattle.plants.specs.declared.change.Done.{Done}
+use Rattle.plants.specs.Changes.{changing, plantAfter}
 use Rattle.plants.specs.Follows.{Follows}
 use Rattle.host.specs.declared.entry.Seat.{Seat}
 use Rattle.host.specs.Seats.{entryOf, seatOf}
+use Rattle.plants.proofs.ChangeLaws.{same-after}
 use Rattle.host.proofs.EntryLaws.{entry-tells, seat-told, seat-sound, seat-refuses, seat-follows}
 use Rattle.kept.proofs.Tables.{event-keeps}
 use Rattle.kept.proofs.Steady.{long-same, event-steady}
@@ -125,26 +129,39 @@ module _ (tables : Tables) (memory line : List ℕ) where
 
     module _ (d : Done) (after : List ℕ)
         (f : Follows (guestAt tables g .extents) (plantAt tables g) (plantRule (sightOf (extentsOf tables g) memory) (plantAt tables g) e) memory d after) where
-      outcome : hostEvent tables memory e ≡ record { answer = d .answer; tables = withPlant tables g (d .plant); memory = after }
-      outcome = seat-follows tables memory e g d after (guest-seated g e p .1) f
+      abbrev put : Tables
+      put = withPlant tables g (plantAfter (plantAt tables g) d)
 
-      pub answers-guest : answered session (parse line) ≡ record { session = record { tables = withPlant tables g (d .plant); memory = after }; text = says (Reply.Event (d .answer)) }
-      unfolding answered says
-      answers-guest = rw (guest-seated g e p .0) (ap afterEvent outcome)
+      -- a change is put back, and what is no change leaves the tables as they were
+      pub next-changed : (plant : Plant) → plant ≡ plantAfter (plantAt tables g) d → withPlant tables g plant ≡ put
+      next-changed plant n = ap (withPlant tables g) n
 
-      right : (keepRules tables ≡ true) × (longEnough tables (length memory) ≡ true)
-      right = entry-tells tables (length memory) (seat-told tables (length memory) e entry g (guest-seated g e p .1) .0)
+      pub next-same : changing (d .change) ≡ false → tables ≡ put
+      next-same n =
+          (λ i. record { guests = tables .guests; guest = sym (set-getD (tables .guest) g hollowGuest) i })
+          ∙ ap (withPlant tables g) (sym (same-after (plantAt tables g) d n))
 
-      pub memory-same : length after ≡ length memory
-      memory-same = ap (λ (o : HostOutcome). length (o .memory)) (sym outcome) ∙ event-steady tables memory e (right .0) (right .1) .1
+      module _ (next : Tables) (n : next ≡ put) where
+        outcome : hostEvent tables memory e ≡ record { answer = d .answer; tables = next; memory = after }
+        outcome = seat-follows tables memory e g d after (guest-seated g e p .1) f ∙ (λ i. record { answer = d .answer; tables = sym n i; memory = after })
 
-      -- it leaves the entry as it was
-      pub entry-same : entryOf (withPlant tables g (d .plant)) (length after) ≡ entry
-      unfolding entryOf
-      entry-same =
-          let kept : keepRules (withPlant tables g (d .plant)) ≡ true = ap (λ (o : HostOutcome). keepRules (o .tables)) (sym outcome) ∙ event-keeps tables memory e (right .0) in
-          let same = ap (λ (o : HostOutcome). longEnough (o .tables) (length memory)) (sym outcome) ∙ long-same _ _ (event-steady tables memory e (right .0) (right .1) .0) (length memory) in
-          rw (kept, memory-same, same, right .0, right .1)
+        pub answers-guest : answered session (parse line) ≡ record { session = record { tables = next; memory = after }; text = says (Reply.Event (d .answer)) }
+        unfolding answered says
+        answers-guest = rw (guest-seated g e p .0) (ap afterEvent outcome)
+
+        right : (keepRules tables ≡ true) × (longEnough tables (length memory) ≡ true)
+        right = entry-tells tables (length memory) (seat-told tables (length memory) e entry g (guest-seated g e p .1) .0)
+
+        pub memory-same : length after ≡ length memory
+        memory-same = ap (λ (o : HostOutcome). length (o .memory)) (sym outcome) ∙ event-steady tables memory e (right .0) (right .1) .1
+
+        -- it leaves the entry as it was
+        pub entry-same : entryOf next (length after) ≡ entry
+        unfolding entryOf
+        entry-same =
+            let kept : keepRules next ≡ true = ap (λ (o : HostOutcome). keepRules (o .tables)) (sym outcome) ∙ event-keeps tables memory e (right .0) in
+            let same = ap (λ (o : HostOutcome). longEnough (o .tables) (length memory)) (sym outcome) ∙ long-same _ _ (event-steady tables memory e (right .0) (right .1) .0) (length memory) in
+            rw (kept, memory-same, same, right .0, right .1)
 
 -- The same, as the code holds it: v is the entry, x what was asked, and the code's match told what x is.
 module _ (tables : Tables) (memory line : List ℕ) (v : Verdict) (q : v ≡ entryOf tables (length memory)) (x : Asked) (p : x ≡ asked tables v (parse line)) where

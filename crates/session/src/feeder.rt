@@ -81,15 +81,21 @@ pub fn feed(feeder: Feeder, mem: &mut [u8], piece: &[u8], out: &mut [u8]) -> Fed
             }
             Asked::Refused(r) => at = put_reply(Reply::Event(Answer::Refused(r)), out, at),
             Asked::Guest(g, event) => {
-                let mut guest = tables.guest[g];
+                let guest = tables.guest[g];
                 let extents = guest.extents;
                 let plant = guest.plant;
                 let done = calls::plant_event(extents, plant, mem, event);
                 let answer = done.answer;
-                let after = done.plant;
-                guest.plant = after;
-                tables.guest[g] = guest;
                 at = put_reply(Reply::Event(answer), out, at);
+                let change = done.change;
+                if plants::is_change(change) {
+                    // Read again: a record that is kept over the call would be copied for every line.
+                    let mut now = tables.guest[g];
+                    let before = now.plant;
+                    let after = plants::plant_after(before, done);
+                    now.plant = after;
+                    tables.guest[g] = now;
+                }
             }
         }
         held = 0;

@@ -147,25 +147,25 @@ same-length-2 c = search needs
 
 returns-8 : tie.Need-returns-8
 unfolding perform
-returns-8 c = perform-as _ _ _ _ _ _ _ _ Function.MmuTsbCtx0 (c .before .before .enum-told8 .given .1) (c .mmu-tsb-ctx0 .ensures)
+returns-8 c = perform-as _ _ _ _ _ _ _ _ Function.MmuTsbCtx0 (c .before .before .enum-told8 .given .1) (c .mmu-tsb-ctx0 .ensures _)
 
 same-length-3 : tie.Need-same-length-3
 same-length-3 c = search needs
 
 returns-9 : tie.Need-returns-9
 unfolding perform
-returns-9 c = perform-as _ _ _ _ _ _ _ _ Function.MmuTsbCtxnon0 (c .before .before .enum-told9 .given .1) (c .mmu-tsb-ctxnon0 .ensures)
+returns-9 c = perform-as _ _ _ _ _ _ _ _ Function.MmuTsbCtxnon0 (c .before .before .enum-told9 .given .1) (c .mmu-tsb-ctxnon0 .ensures _)
 
 same-length-4 : tie.Need-same-length-4
 same-length-4 c = search needs
 
 returns-10 : tie.Need-returns-10
 unfolding perform
-returns-10 c = perform-as _ _ _ _ _ _ _ _ Function.MemScrub (c .before .before .before .before .enum-told10 .given .1) (c .before .before .mem-scrub .ensures)
+returns-10 c = perform-as _ _ _ _ _ _ _ _ Function.MemScrub (c .before .before .before .before .enum-told10 .given .1) (c .before .before .mem-scrub .ensures _)
 
 returns-11 : tie.Need-returns-11
 unfolding perform
-returns-11 c = perform-as _ _ _ _ _ _ _ _ Function.MemSync (c .before .enum-told11 .given .1) (quiet _ _ _ _ _ (c .mem-sync .ensures))
+returns-11 c = perform-as _ _ _ _ _ _ _ _ Function.MemSync (c .before .enum-told11 .given .1) (quiet _ _ _ _ _ (c .mem-sync .ensures _))
 
 returns-12 : tie.Need-returns-12
 unfolding perform

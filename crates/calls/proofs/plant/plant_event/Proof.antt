@@ -58,14 +58,14 @@ same-length-4 c = search needs
 
 returns-4 : tie.Need-returns-4
 unfolding plantRule
-returns-4 c = event-as _ _ _ _ _ _ _ _ (c .before .before .before .event4 .given .1) (c .load-word .ensures)
+returns-4 c = event-as _ _ _ _ _ _ _ _ (c .before .before .before .event4 .given .1) (c .load-word .ensures _)
 
 same-length-5 : tie.Need-same-length-5
 same-length-5 c = search needs
 
 returns-5 : tie.Need-returns-5
 unfolding plantRule
-returns-5 c = event-as _ _ _ _ _ _ _ _ (c .before .before .before .before .before .event5 .given .1) (c .before .before .store-word .ensures)
+returns-5 c = event-as _ _ _ _ _ _ _ _ (c .before .before .before .before .before .event5 .given .1) (c .before .before .store-word .ensures _)
 
 pub plant-event-spec : {M : Type 1} → statement M
 plant-event-spec =
