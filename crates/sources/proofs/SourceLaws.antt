@@ -12,14 +12,19 @@ use Rattle.rules.specs.declared.Target.{Target}
 use Rattle.rules.specs.declared.Refusal.the-variants.{EINVAL, ENOCPU, ENOTSUPPORTED, EBADTRAP}
 use Rattle.rules.specs.declared.Answer.{Answer}
 use Rattle.rules.specs.declared.Answer.the-variants.{One}
+use Rattle.rules.specs.Limits.{sourceLimit}
 use Rattle.rules.specs.Scan.{firstBelow, foundOr}
 use Rattle.rules.specs.Image.{named}
 use Rattle.rules.specs.Kept.{sourceAt, withSource, withEnabled, withState, withTarget, withCookie}
 use Rattle.rules.specs.Rulings.{Ruling, refused, Outcome, outcomeOf, says, done, if_then_else_}
 use Rattle.rules.specs.Sources.{sysinoOf, targetNumber, get-enabled, set-enabled, get-state, set-state, get-target, set-target, get-cookie, set-cookie, intr-devino2sysino, intr, vintr}
 use Rattle.rules.proofs.Scan.{first-below}
-use Rattle.plants.specs.declared.Done.{Done}
+use Rattle.plants.specs.declared.change.Change.{Change}
+use Rattle.plants.specs.declared.change.Done.{Done}
+use Rattle.plants.specs.Changes.{doneBy}
 use Rattle.plants.specs.Done.{quietly, saying}
+use Rattle.plants.proofs.ChangeLaws.{source-after}
+use Rattle.plants.proofs.OutcomeLaws.{tells, changes}
 
 -- the name of a source, in two tests
 module _ (s : Source) (devhandle devino : ℕ) where
@@ -51,6 +56,10 @@ module _ (plant : Plant) (devhandle devino : ℕ) (f : Found) (p : f ≡ sysinoO
 pub target-told : (plant : Plant) (i n : ℕ) → n ≡ targetNumber (sourceAt plant i .target) → get-target plant i ≡ says (One n) plant
 unfolding get-target
 target-told plant i n e = rw e
+
+-- d is what the code of a setter gives back: source i becomes s
+pub source-set : (plant : Plant) (x : Ruling Outcome) (d : Done) (i : ℕ) (s : Source) → d ≡ doneBy Answer.Done (Change.Source i s) → x ≡ done (withSource plant i s) → i < sourceLimit → quietly plant d ≡ outcomeOf plant x
+source-set plant x d i s g e h = changes plant x d Answer.Done _ _ g (source-after plant _ _ i s h) e
 
 -- the setters
 module _ (plant : Plant) (i value : ℕ) where
@@ -139,12 +148,12 @@ module _ (plant : Plant) (function sysino value : ℕ) where
   intr-past h = rw (le-ltb sysino (plant .sources) h)
 
   module _ (h : sysino < plant .sources) where
-    pub intr-at : (d : Done) (k : ℕ) → function ≡ k → quietly d ≡ outcomeOf plant (bySysino plant k sysino value) → quietly d ≡ outcomeOf plant (intr plant function sysino value)
+    pub intr-at : (d : Done) (k : ℕ) → function ≡ k → quietly plant d ≡ outcomeOf plant (bySysino plant k sysino value) → quietly plant d ≡ outcomeOf plant (intr plant function sysino value)
     unfolding intr bySysino
     intr-at d k e f = rw (lt-ltb sysino (plant .sources) h, e) f
 
-    pub intr-told : (d : Done) (a : Answer) (k : ℕ) → function ≡ k → quietly d ≡ saying plant a → saying plant a ≡ outcomeOf plant (bySysino plant k sysino value) → quietly d ≡ outcomeOf plant (intr plant function sysino value)
-    intr-told d a k e f g = intr-at d k e (f ∙ g)
+    pub intr-told : (d : Done) (a : Answer) (k : ℕ) → function ≡ k → d ≡ doneBy a Change.Nothing → saying plant a ≡ outcomeOf plant (bySysino plant k sysino value) → quietly plant d ≡ outcomeOf plant (intr plant function sysino value)
+    intr-told d a k e f g = intr-at d k e (tells plant (bySysino plant k sysino value) d a f g)
 
     pub intr-other : (function ≡ 0xa1 → ⊥) → (function ≡ 0xa2 → ⊥) → (function ≡ 0xa3 → ⊥) → (function ≡ 0xa4 → ⊥) → (function ≡ 0xa5 → ⊥) → (function ≡ 0xa6 → ⊥) → intr plant function sysino value ≡ refused EBADTRAP
     unfolding intr
@@ -161,12 +170,12 @@ module _ (plant : Plant) (function devhandle devino value : ℕ) (s : Found) (p 
     vintr-cookieless h = rw (← p, q, not-true (sourceAt plant i .cookies) h)
 
     module _ (h : not (sourceAt plant i .cookies) ≡ false) where
-      pub vintr-at : (d : Done) (k : ℕ) → function ≡ k → quietly d ≡ outcomeOf plant (byName plant k i value) → quietly d ≡ outcomeOf plant (vintr plant function devhandle devino value)
+      pub vintr-at : (d : Done) (k : ℕ) → function ≡ k → quietly plant d ≡ outcomeOf plant (byName plant k i value) → quietly plant d ≡ outcomeOf plant (vintr plant function devhandle devino value)
       unfolding vintr byName
       vintr-at d k e f = rw (← p, q, not-false (sourceAt plant i .cookies) h, e) f
 
-      pub vintr-told : (d : Done) (a : Answer) (k : ℕ) → function ≡ k → quietly d ≡ saying plant a → saying plant a ≡ outcomeOf plant (byName plant k i value) → quietly d ≡ outcomeOf plant (vintr plant function devhandle devino value)
-      vintr-told d a k e f g = vintr-at d k e (f ∙ g)
+      pub vintr-told : (d : Done) (a : Answer) (k : ℕ) → function ≡ k → d ≡ doneBy a Change.Nothing → saying plant a ≡ outcomeOf plant (byName plant k i value) → quietly plant d ≡ outcomeOf plant (vintr plant function devhandle devino value)
+      vintr-told d a k e f g = vintr-at d k e (tells plant (byName plant k i value) d a f g)
 
       pub vintr-other : (function ≡ 0xa7 → ⊥) → (function ≡ 0xa8 → ⊥) → (function ≡ 0xa9 → ⊥) → (function ≡ 0xaa → ⊥) → (function ≡ 0xab → ⊥) → (function ≡ 0xac → ⊥) → (function ≡ 0xad → ⊥) → (function ≡ 0xae → ⊥) → vintr plant function devhandle devino value ≡ refused EBADTRAP
       unfolding vintr

@@ -1,7 +1,8 @@
 // Interrupt sources: 0xa0 to 0xae.
+use plants::Change;
 use plants::Done;
+use plants::done_by;
 use plants::told;
-use plants::with_source;
 use rules::Answer;
 use rules::Found;
 use rules::Plant;
@@ -104,46 +105,29 @@ fn lacks_cookie(version: u8, cookie: u64, value: u64) -> bool
 
 fn set_enabled(plant: Plant, i: usize, value: u64) -> Done
     requires { ⌜ i < sourceLimit ⌝ }
-    ensures { λ r. ⌜ quietly r ≡ outcomeOf plant (set-enabled plant i value) ⌝ }
+    ensures { λ r. ⌜ quietly plant r ≡ outcomeOf plant (set-enabled plant i value) ⌝ }
 {
     if 1 < value {
-        return Done {
-            answer: Answer::Refused(Refusal::EINVAL),
-            plant,
-        };
+        return told(Answer::Refused(Refusal::EINVAL));
     }
     let mut s = plant.source[i];
     if lacks_cookie(plant.versions.interrupt, s.cookie, value) {
-        return Done {
-            answer: Answer::Refused(Refusal::EINVAL),
-            plant,
-        };
+        return told(Answer::Refused(Refusal::EINVAL));
     }
     s.enabled = value as u8;
-    let next = with_source(plant, i, s);
-    Done {
-        answer: Answer::Done,
-        plant: next,
-    }
+    done_by(Answer::Done, Change::Source(i, s))
 }
 
 fn set_state(plant: Plant, i: usize, value: u64) -> Done
     requires { ⌜ i < sourceLimit ⌝ }
-    ensures { λ r. ⌜ quietly r ≡ outcomeOf plant (set-state plant i value) ⌝ }
+    ensures { λ r. ⌜ quietly plant r ≡ outcomeOf plant (set-state plant i value) ⌝ }
 {
     if 2 < value {
-        return Done {
-            answer: Answer::Refused(Refusal::EINVAL),
-            plant,
-        };
+        return told(Answer::Refused(Refusal::EINVAL));
     }
     let mut s = plant.source[i];
     s.state = value as u8;
-    let next = with_source(plant, i, s);
-    Done {
-        answer: Answer::Done,
-        plant: next,
-    }
+    done_by(Answer::Done, Change::Source(i, s))
 }
 
 fn with_target(s: Source, target: Target) -> Source
@@ -163,49 +147,32 @@ fn with_target(s: Source, target: Target) -> Source
 // The cpu has to be one of the guest's own.
 fn set_target(plant: Plant, i: usize, value: u64) -> Done
     requires { ⌜ i < sourceLimit ⌝ }
-    ensures { λ r. ⌜ quietly r ≡ outcomeOf plant (set-target plant i value) ⌝ }
+    ensures { λ r. ⌜ quietly plant r ≡ outcomeOf plant (set-target plant i value) ⌝ }
 {
     let cpus = plant.cpus as u64;
     if cpus <= value {
-        return Done {
-            answer: Answer::Refused(Refusal::ENOCPU),
-            plant,
-        };
+        return told(Answer::Refused(Refusal::ENOCPU));
     }
     let s = plant.source[i];
-    let next = with_source(plant, i, with_target(s, Target::Cpu(value as u8)));
-    Done {
-        answer: Answer::Done,
-        plant: next,
-    }
+    let after = with_target(s, Target::Cpu(value as u8));
+    done_by(Answer::Done, Change::Source(i, after))
 }
 
 // Cookie 0 disables; 1 to 2,047 are no cookies.
 fn set_cookie(plant: Plant, i: usize, value: u64) -> Done
     requires { ⌜ i < sourceLimit ⌝ }
-    ensures { λ r. ⌜ quietly r ≡ outcomeOf plant (set-cookie plant i value) ⌝ }
+    ensures { λ r. ⌜ quietly plant r ≡ outcomeOf plant (set-cookie plant i value) ⌝ }
 {
     let mut s = plant.source[i];
     s.cookie = value;
     if value == 0 {
         s.enabled = 0;
-        let next = with_source(plant, i, s);
-        return Done {
-            answer: Answer::Done,
-            plant: next,
-        };
+        return done_by(Answer::Done, Change::Source(i, s));
     }
     if value <= 2047 {
-        return Done {
-            answer: Answer::Refused(Refusal::EINVAL),
-            plant,
-        };
+        return told(Answer::Refused(Refusal::EINVAL));
     }
-    let next = with_source(plant, i, s);
-    Done {
-        answer: Answer::Done,
-        plant: next,
-    }
+    done_by(Answer::Done, Change::Source(i, s))
 }
 
 // 0xa0: the sysino of a source.
@@ -223,46 +190,46 @@ pub fn intr_devino2sysino(plant: Plant, devhandle: u64, devino: u64) -> Answer
 // 0xa1 to 0xa6, by sysino.
 pub fn intr(plant: Plant, function: u64, sysino: u64, value: u64) -> Done
     requires { ⌜ plant .sources ≤ sourceLimit ⌝ }
-    ensures { λ r. ⌜ quietly r ≡ outcomeOf plant (intr plant function sysino value) ⌝ }
+    ensures { λ r. ⌜ quietly plant r ≡ outcomeOf plant (intr plant function sysino value) ⌝ }
 {
     let count = plant.sources as u64;
     if count <= sysino {
-        return told(plant, Answer::Refused(Refusal::EINVAL));
+        return told(Answer::Refused(Refusal::EINVAL));
     }
     let i = sysino as usize;
     match function {
-        0xa1 => told(plant, get_enabled(plant, i)),
+        0xa1 => told(get_enabled(plant, i)),
         0xa2 => set_enabled(plant, i, value),
-        0xa3 => told(plant, get_state(plant, i)),
+        0xa3 => told(get_state(plant, i)),
         0xa4 => set_state(plant, i, value),
-        0xa5 => told(plant, get_target(plant, i)),
+        0xa5 => told(get_target(plant, i)),
         0xa6 => set_target(plant, i, value),
-        _ => told(plant, Answer::Refused(Refusal::EBADTRAP)),
+        _ => told(Answer::Refused(Refusal::EBADTRAP)),
     }
 }
 
 // 0xa7 to 0xae, by devhandle and devino.
 pub fn vintr(plant: Plant, function: u64, devhandle: u64, devino: u64, value: u64) -> Done
     requires { ⌜ plant .sources ≤ sourceLimit ⌝ }
-    ensures { λ r. ⌜ quietly r ≡ outcomeOf plant (vintr plant function devhandle devino value) ⌝ }
+    ensures { λ r. ⌜ quietly plant r ≡ outcomeOf plant (vintr plant function devhandle devino value) ⌝ }
 {
     let found = sysino_of(plant, devhandle, devino);
     let Found::At(i) = found else {
-        return told(plant, Answer::Refused(Refusal::EINVAL));
+        return told(Answer::Refused(Refusal::EINVAL));
     };
     let s = plant.source[i];
     if !s.cookies {
-        return told(plant, Answer::Refused(Refusal::ENOTSUPPORTED));
+        return told(Answer::Refused(Refusal::ENOTSUPPORTED));
     }
     match function {
-        0xa7 => told(plant, get_cookie(plant, i)),
+        0xa7 => told(get_cookie(plant, i)),
         0xa8 => set_cookie(plant, i, value),
-        0xa9 => told(plant, get_enabled(plant, i)),
+        0xa9 => told(get_enabled(plant, i)),
         0xaa => set_enabled(plant, i, value),
-        0xab => told(plant, get_state(plant, i)),
+        0xab => told(get_state(plant, i)),
         0xac => set_state(plant, i, value),
-        0xad => told(plant, get_target(plant, i)),
+        0xad => told(get_target(plant, i)),
         0xae => set_target(plant, i, value),
-        _ => told(plant, Answer::Refused(Refusal::EBADTRAP)),
+        _ => told(Answer::Refused(Refusal::EBADTRAP)),
     }
 }

@@ -1,12 +1,15 @@
 -- `sources::set_state` meets its contract: each return is the rule's case, by the tests on the way.
 use borrow.Author.Needs.{needs}
-use Rattle.plants.proofs.OutcomeLaws.{refuses, changes}
-use Rattle.sources.proofs.SourceLaws.{state-past, state-done}
+use Rattle.plants.proofs.OutcomeLaws.{tells-refusal}
+use Rattle.sources.proofs.SourceLaws.{source-set, state-past, state-done}
 use Rattle.sources.proofs.set_state.Statement.{statement}
 use Rattle.sources.proofs.set_state.Tie as tie
 
+told-requires : tie.Need-told-requires
+told-requires c κs = search needs
+
 returns : tie.Need-returns
-returns c = search (refuses, state-past)
+returns c = search (tells-refusal, state-past)
 
 mul-s : tie.Need-mul-s
 mul-s c = search needs
@@ -17,12 +20,20 @@ element-copy-out-s c = search needs
 cast-s : tie.Need-cast-s
 cast-s c = search needs
 
-with-source-requires : tie.Need-with-source-requires
-with-source-requires c κs = search needs
+done-by-requires : tie.Need-done-by-requires
+done-by-requires c κs = search needs
 
 returns-2 : tie.Need-returns-2
-returns-2 c = search (changes, state-done)
+returns-2 c = search (source-set, state-done)
 
 pub set-state-spec : {M : Type 1} → statement M
 set-state-spec =
-    tie.close (tie.spec returns mul-s element-copy-out-s cast-s with-source-requires returns-2)
+    tie.close
+    (tie.spec
+    told-requires
+    returns
+    mul-s
+    element-copy-out-s
+    cast-s
+    done-by-requires
+    returns-2)

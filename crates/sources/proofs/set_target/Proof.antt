@@ -1,15 +1,18 @@
 -- `sources::set_target` meets its contract: each return is the rule's case, by the tests on the way.
 use borrow.Author.Needs.{needs}
-use Rattle.plants.proofs.OutcomeLaws.{refuses, changes}
-use Rattle.sources.proofs.SourceLaws.{target-past, target-done}
+use Rattle.plants.proofs.OutcomeLaws.{tells-refusal}
+use Rattle.sources.proofs.SourceLaws.{source-set, target-past, target-done}
 use Rattle.sources.proofs.set_target.Statement.{statement}
 use Rattle.sources.proofs.set_target.Tie as tie
 
 cast-cpus : tie.Need-cast-cpus
 cast-cpus c = search needs
 
+told-requires : tie.Need-told-requires
+told-requires c κs = search needs
+
 returns : tie.Need-returns
-returns c = search (refuses, target-past)
+returns c = search (tells-refusal, target-past)
 
 mul-s : tie.Need-mul-s
 mul-s c = search needs
@@ -23,21 +26,22 @@ cast-t8 c = search needs
 with-target-requires : tie.Need-with-target-requires
 with-target-requires c κs = search needs
 
-with-source-requires : tie.Need-with-source-requires
-with-source-requires c κs = search needs
+done-by-requires : tie.Need-done-by-requires
+done-by-requires c κs = search needs
 
 returns-2 : tie.Need-returns-2
-returns-2 c = search (changes, target-done)
+returns-2 c = search (source-set, target-done)
 
 pub set-target-spec : {M : Type 1} → statement M
 set-target-spec =
     tie.close
     (tie.spec
     cast-cpus
+    told-requires
     returns
     mul-s
     element-copy-out-s
     cast-t8
     with-target-requires
-    with-source-requires
+    done-by-requires
     returns-2)
