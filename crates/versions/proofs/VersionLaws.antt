@@ -1,45 +1,39 @@
 -- The rules of set version and get version at each return of the code, from the tests on the way.
 use mathlib.Core.Path.{_≡_}
 use mathlib.Core.Bool.{Bool, true, false, not}
-use mathlib.Core.List.{List, map}
+use mathlib.Core.List.{List}
 use Prim.Native.Nat.{ℕ, _≤_, _<_}
 use native.Mathlib.Omega.{arith}
-use lib.ListN.{length, length-map}
 use borrow.Author.Tests.{le-leb, lt-leb, lt-ltb, le-ltb, eq-eqb, ne-eqb, not-true, not-false}
 use Rattle.rules.specs.declared.Group.{Group}
 use Rattle.rules.specs.declared.Plant.{Plant}
-use Rattle.rules.specs.declared.Source.{Source}
+use Rattle.rules.specs.declared.TsbList.{TsbList}
 use Rattle.rules.specs.declared.Versions.{Versions}
 use Rattle.rules.specs.declared.Refusal.the-variants.{EINVAL, ENOTSUPPORTED}
 use Rattle.rules.specs.declared.Answer.the-variants.{One, Two}
-use Rattle.rules.specs.Kept.{withVersions, withSources}
 use Rattle.rules.specs.Rulings.{refused, says}
-use Rattle.rules.specs.Versions.{groupOf, known, newest, majorOf, withMajor, disabled, allDisabled, negotiated, set-version, get-version}
-use Rattle.versions.proofs.Mapped.{mapped, mapped-all}
+use Rattle.rules.specs.Versions.{groupOf, known, newest, majorOf, withMajor, negotiated, set-version, get-version}
+use Rattle.plants.specs.declared.change.Change.{Change}
+use Rattle.plants.specs.Changes.{changedBy}
 
 pub group-other : (n : ℕ) → (n ≡ 0 → ⊥) → (n ≡ 1 → ⊥) → (n ≡ 2 → ⊥) → (n ≡ 0x200 → ⊥) → Group.Unknown ≡ groupOf n
 unfolding groupOf
 group-other n a b c d = rw (ne-eqb n 0 a, ne-eqb n 1 b, ne-eqb n 2 c, ne-eqb n 0x200 d)
 
--- after i turns, where i is the number of the sources, all are disabled
-pub all-turned : {B : Type 0} (f : Source → B) (plant : Plant) (sources : List Source) (i n : ℕ) → sources ≡ mapped disabled i (plant .source) → length (map f (plant .source)) ≡ n → n ≤ i → withSources plant sources ≡ allDisabled plant
-unfolding allDisabled
-all-turned f plant sources i n e k h = rw (mapped-all disabled _ _ i e (omega (arith, k, length-map (plant .source) f)))
-
--- b is the major before, and w the versions after
-module _ (plant : Plant) (group : Group) (major b : ℕ) (w : Versions) (p : b ≡ majorOf (plant .versions) group) (q : w ≡ withMajor (plant .versions) group major) where
-  pub negotiated-again : major ≤ b → withVersions plant w ≡ negotiated plant group major
-  unfolding negotiated
+-- b is the major before, and w the versions after; neither change looks at the list and the tails beside it
+module _ (plant : Plant) (group : Group) (major b : ℕ) (w : Versions) (p : b ≡ majorOf (plant .versions) group) (q : w ≡ withMajor (plant .versions) group major) (tsbs : TsbList) (tails : List ℕ) where
+  pub negotiated-again : major ≤ b → changedBy plant tsbs tails (Change.Versions w) ≡ negotiated plant group major
+  unfolding negotiated changedBy
   negotiated-again h = rw (← p, le-ltb b major h, q)
 
   module _ (h : b < major) where
-    pub negotiated-one : (major ≡ 2 → ⊥) → withVersions plant w ≡ negotiated plant group major
-    unfolding negotiated
+    pub negotiated-one : (major ≡ 2 → ⊥) → changedBy plant tsbs tails (Change.Versions w) ≡ negotiated plant group major
+    unfolding negotiated changedBy
     negotiated-one k = rw (← p, lt-ltb b major h, ne-eqb major 2 k, q)
 
-    pub negotiated-two : (r : Plant) → major ≡ 2 → r ≡ allDisabled (withVersions plant w) → r ≡ negotiated plant group major
-    unfolding negotiated
-    negotiated-two r k e = rw (← p, lt-ltb b major h, eq-eqb major 2 k, e, q)
+    pub negotiated-two : major ≡ 2 → changedBy plant tsbs tails (Change.Disabled w) ≡ negotiated plant group major
+    unfolding negotiated changedBy
+    negotiated-two k = rw (← p, lt-ltb b major h, eq-eqb major 2 k, q)
 
 -- g is the group, k whether it is known, and b its major before
 module _ (plant : Plant) (group : ℕ) (g : Group) (p : g ≡ groupOf group) (k : Bool) (e : k ≡ known g) where

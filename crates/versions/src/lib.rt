@@ -1,14 +1,20 @@
 // Which version of each API group a guest speaks: set version and get version.
+use plants::Change;
 use plants::Done;
+use plants::done_by;
+use plants::told;
 use rules::Answer;
 use rules::Group;
 use rules::Plant;
 use rules::Refusal;
-use rules::SOURCES;
 use rules::Versions;
 ghost use mathlib.Core.Path.{_≡_};
+ghost use mathlib.Core.List.{List};
+ghost use Prim.Native.Nat.{ℕ};
+ghost use Rattle.rules.specs.declared.TsbList.{TsbList};
 ghost use Rattle.rules.specs.Rulings.{outcomeOf};
-ghost use Rattle.rules.specs.Versions.{groupOf, known, newest, majorOf, withMajor, allDisabled, negotiated, set-version, get-version};
+ghost use Rattle.rules.specs.Versions.{groupOf, known, newest, majorOf, withMajor, negotiated, set-version, get-version};
+ghost use Rattle.plants.specs.Changes.{changedBy};
 ghost use Rattle.plants.specs.Done.{quietly, saying};
 
 // Groups 0, 1, 2 and 0x200.
@@ -76,78 +82,44 @@ fn with_major(v: Versions, group: Group, major: u8) -> Versions
     next
 }
 
-// Every source of the guest disabled.
-fn all_disabled(plant: Plant) -> Plant
-    ensures { λ r. ⌜ r ≡ allDisabled plant ⌝ }
-{
-    let mut source = plant.source;
-    let mut i = 0;
-    while i < SOURCES {
-        let mut s = source[i];
-        s.enabled = 0;
-        source[i] = s;
-        i += 1;
-    }
-    let mut next = plant;
-    next.source = source;
-    next
-}
-
-// The record with the version set: going to 2.0 disables every source, repeating a version changes nothing.
-fn negotiate(plant: Plant, group: Group, major: u8) -> Plant
-    ensures { λ r. ⌜ r ≡ negotiated plant group major ⌝ }
+// What setting the version changes: going to 2.0 disables every source, repeating a version changes nothing.
+fn negotiate(plant: Plant, group: Group, major: u8) -> Change
+    ensures { λ r. ⌜ ((tsbs : TsbList) (tails : List ℕ) → changedBy plant tsbs tails r ≡ negotiated plant group major) ⌝ }
 {
     let v = plant.versions;
     let before = major_of(v, group);
     let versions = with_major(v, group, major);
-    let mut next = plant;
-    next.versions = versions;
     if major <= before {
-        return next;
+        return Change::Versions(versions);
     }
     if major != 2 {
-        return next;
+        return Change::Versions(versions);
     }
-    all_disabled(next)
+    Change::Disabled(versions)
 }
 
 // A group's version is set. The minor is always 0.
 pub fn set_version(plant: Plant, group: u64, major: u64) -> Done
-    ensures { λ r. ⌜ quietly r ≡ outcomeOf plant (set-version plant group major) ⌝ }
+    ensures { λ r. ⌜ quietly plant r ≡ outcomeOf plant (set-version plant group major) ⌝ }
 {
     let g = group_of(group);
     if !is_known(g) {
-        return Done {
-            answer: Answer::Refused(Refusal::EINVAL),
-            plant,
-        };
+        return told(Answer::Refused(Refusal::EINVAL));
     }
     if major == 0 {
-        return Done {
-            answer: Answer::Refused(Refusal::ENOTSUPPORTED),
-            plant,
-        };
+        return told(Answer::Refused(Refusal::ENOTSUPPORTED));
     }
     let newest = newest_of(g) as u64;
     if newest < major {
-        return Done {
-            answer: Answer::Refused(Refusal::ENOTSUPPORTED),
-            plant,
-        };
+        return told(Answer::Refused(Refusal::ENOTSUPPORTED));
     }
     let v = plant.versions;
     let before = major_of(v, g) as u64;
     if major < before {
-        return Done {
-            answer: Answer::Refused(Refusal::ENOTSUPPORTED),
-            plant,
-        };
+        return told(Answer::Refused(Refusal::ENOTSUPPORTED));
     }
-    let next = negotiate(plant, g, major as u8);
-    Done {
-        answer: Answer::One(0),
-        plant: next,
-    }
+    let change = negotiate(plant, g, major as u8);
+    done_by(Answer::One(0), change)
 }
 
 // A group's major and minor, where a version is set.

@@ -16,9 +16,6 @@ returns c = search negotiated-again
 returns-2 : tie.Need-returns-2
 returns-2 c = search negotiated-one
 
-all-disabled-requires : tie.Need-all-disabled-requires
-all-disabled-requires c κs = search needs
-
 returns-3 : tie.Need-returns-3
 returns-3 c = search negotiated-two
 
@@ -30,5 +27,4 @@ negotiate-spec =
     with-major-requires
     returns
     returns-2
-    all-disabled-requires
     returns-3)
