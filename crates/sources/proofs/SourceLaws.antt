@@ -57,10 +57,6 @@ pub target-told : (plant : Plant) (i n : ℕ) → n ≡ targetNumber (sourceAt p
 unfolding get-target
 target-told plant i n e = rw e
 
--- d is what the code of a setter gives back: source i becomes s
-pub source-set : (plant : Plant) (x : Ruling Outcome) (d : Done) (i : ℕ) (s : Source) → d ≡ doneBy Answer.Done (Change.Source i s) → x ≡ done (withSource plant i s) → i < sourceLimit → quietly plant d ≡ outcomeOf plant x
-source-set plant x d i s g e h = changes plant x d Answer.Done _ _ g (source-after plant _ _ i s h) e
-
 -- the setters
 module _ (plant : Plant) (i value : ℕ) where
   pub enabled-past : 1 < value → set-enabled plant i value ≡ refused EINVAL

@@ -1,7 +1,7 @@
 -- `sources::set_enabled` meets its contract: each return is the rule's case, by the tests on the way.
 use borrow.Author.Needs.{needs}
-use Rattle.plants.proofs.OutcomeLaws.{tells-refusal}
-use Rattle.sources.proofs.SourceLaws.{source-set, enabled-past, enabled-lacks, enabled-done}
+use Rattle.plants.proofs.OutcomeLaws.{tells-refusal, source-changes}
+use Rattle.sources.proofs.SourceLaws.{enabled-past, enabled-lacks, enabled-done}
 use Rattle.sources.proofs.set_enabled.Statement.{statement}
 use Rattle.sources.proofs.set_enabled.Tie as tie
 
@@ -33,7 +33,7 @@ done-by-requires : tie.Need-done-by-requires
 done-by-requires c κs = search needs
 
 returns-3 : tie.Need-returns-3
-returns-3 c = search (source-set, enabled-done)
+returns-3 c = search (source-changes, enabled-done)
 
 pub set-enabled-spec : {M : Type 1} → statement M
 set-enabled-spec =

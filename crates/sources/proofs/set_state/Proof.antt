@@ -1,7 +1,7 @@
 -- `sources::set_state` meets its contract: each return is the rule's case, by the tests on the way.
 use borrow.Author.Needs.{needs}
-use Rattle.plants.proofs.OutcomeLaws.{tells-refusal}
-use Rattle.sources.proofs.SourceLaws.{source-set, state-past, state-done}
+use Rattle.plants.proofs.OutcomeLaws.{tells-refusal, source-changes}
+use Rattle.sources.proofs.SourceLaws.{state-past, state-done}
 use Rattle.sources.proofs.set_state.Statement.{statement}
 use Rattle.sources.proofs.set_state.Tie as tie
 
@@ -24,7 +24,7 @@ done-by-requires : tie.Need-done-by-requires
 done-by-requires c κs = search needs
 
 returns-2 : tie.Need-returns-2
-returns-2 c = search (source-set, state-done)
+returns-2 c = search (source-changes, state-done)
 
 pub set-state-spec : {M : Type 1} → statement M
 set-state-spec =

@@ -1,7 +1,7 @@
 -- `sources::set_target` meets its contract: each return is the rule's case, by the tests on the way.
 use borrow.Author.Needs.{needs}
-use Rattle.plants.proofs.OutcomeLaws.{tells-refusal}
-use Rattle.sources.proofs.SourceLaws.{source-set, target-past, target-done}
+use Rattle.plants.proofs.OutcomeLaws.{tells-refusal, source-changes}
+use Rattle.sources.proofs.SourceLaws.{target-past, target-done}
 use Rattle.sources.proofs.set_target.Statement.{statement}
 use Rattle.sources.proofs.set_target.Tie as tie
 
@@ -30,7 +30,7 @@ done-by-requires : tie.Need-done-by-requires
 done-by-requires c κs = search needs
 
 returns-2 : tie.Need-returns-2
-returns-2 c = search (source-set, target-done)
+returns-2 c = search (source-changes, target-done)
 
 pub set-target-spec : {M : Type 1} → statement M
 set-target-spec =
