@@ -12,9 +12,10 @@ use Rattle.rules.specs.declared.Extents.{Extents}
 use Rattle.rules.specs.declared.Plant.{Plant}
 use Rattle.rules.specs.declared.Refusal.{Refusal}
 use Rattle.rules.specs.declared.Refusal.the-variants.{EINVAL, EBADALIGN, ENORADDR}
-use Rattle.rules.specs.declared.Answer.the-variants.{Done, One, Refused}
+use Rattle.rules.specs.declared.Answer.the-variants.{Done, One}
+use Rattle.rules.specs.Kept.{blankGuest}
 use Rattle.rules.specs.Real.{valid, byteAt, sightOf, numberOf, wordBytes, apply}
-use Rattle.rules.specs.Rulings.{Ruling, Outcome, outcomeOf, done}
+use Rattle.rules.specs.Rulings.{Ruling, refused, Outcome, done, says}
 use Rattle.rules.specs.Memory.{wholePages, wholeWord, mem-scrub, mem-sync, store-word, load-word}
 use Rattle.memory.specs.Cells.{one}
 use Rattle.memory.specs.Ready.{present}
@@ -23,10 +24,16 @@ use Rattle.records.specs.declared.Verdict.{Verdict}
 use Rattle.records.specs.declared.Verdict.the-variants.{Right, Refused as Told}
 use Rattle.records.specs.Verdict.{verdictOf}
 use Rattle.records.proofs.Told.{told-then}
-use Rattle.plants.specs.Done.{quietly}
+use Rattle.plants.specs.declared.change.Change.{Change}
+use Rattle.plants.specs.declared.change.Done.{Done as Gave}
+use Rattle.plants.specs.Changes.{doneBy, changedBy, plantAfter}
 use Rattle.plants.specs.Follows.{Follows}
 use Rattle.plants.specs.Judged.{judged}
 use Rattle.plants.proofs.JudgedLaws.{judged-refused, judged-right, judged-told}
+
+-- what a verdict tells of a range or an address is no matter of the plant
+abbrev anyPlant : Plant
+anyPlant = blankGuest .plant
 
 -- what scrub and sync ask
 module _ (v : ℕ → ℕ → Bool) (a n : ℕ) (rest : Ruling Outcome) where
@@ -69,17 +76,21 @@ module _ (v : ℕ → ℕ → Bool) (a : ℕ) (rest : Ruling Outcome) where
     word-right e = rw (eq-eqb (a % 8) 0 h, ← p, not-false t e)
 
 -- pages
-module _ (v : ℕ → ℕ → Bool) (plant : Plant) (a n : ℕ) (t : Verdict) (f : (rest : Ruling Outcome) → wholePages v a n rest ≡ judged t rest) where
-  pub sync-refused : (r : Refusal) → t ≡ Told r → quietly (record { answer = Refused r; plant = plant }) ≡ outcomeOf plant (mem-sync v plant a n)
+module _ (v : ℕ → ℕ → Bool) (a n : ℕ) (t : Verdict) (f : (rest : Ruling Outcome) → wholePages v a n rest ≡ judged t rest) where
+  pub sync-refused : (plant : Plant) (r : Refusal) → t ≡ Told r → mem-sync v plant a n ≡ refused r
   unfolding mem-sync
-  sync-refused r e = rw (judged-refused (wholePages v a n) t f r e)
+  sync-refused plant r e = judged-refused (wholePages v a n) t f r e _
+
+  pub scrub-refused : (plant : Plant) (r : Refusal) → t ≡ Told r → mem-scrub v plant a n ≡ refused r
+  unfolding mem-scrub
+  scrub-refused plant r e = judged-refused (wholePages v a n) t f r e _
 
   module _ (e : t ≡ Right) where
-    pub sync-done : quietly (record { answer = One n; plant = plant }) ≡ outcomeOf plant (mem-sync v plant a n)
+    pub sync-done : (plant : Plant) → mem-sync v plant a n ≡ says (One n) plant
     unfolding mem-sync
-    sync-done = rw (judged-right (wholePages v a n) t f e)
+    sync-done plant = judged-right (wholePages v a n) t f e _
 
-    told : verdictOf (wholePages v a n (done plant)) ≡ Right
+    told : verdictOf (wholePages v a n (done anyPlant)) ≡ Right
     told = judged-told (wholePages v a n) t f e _
 
     some-told : not (eqb n 0) ≡ true
@@ -94,53 +105,53 @@ module _ (v : ℕ → ℕ → Bool) (plant : Plant) (a n : ℕ) (t : Verdict) (f
     unfolding wholePages
     range-told = told-then _ _ _ (rw (some-told, align-told) at told)
 
-module _ (extents : Extents) (plant : Plant) (m : List ℕ) (a n : ℕ) (t : Verdict) (f : (rest : Ruling Outcome) → wholePages (valid (present extents)) a n rest ≡ judged t rest) where
+module _ (extents : Extents) (a n : ℕ) (t : Verdict) (f : (rest : Ruling Outcome) → wholePages (valid (present extents)) a n rest ≡ judged t rest) where
   -- the first bytes of a range that is right
   pub scrub-first : (k : ℕ) → t ≡ Right → k ≡ min n 32768 → valid (present extents) a k ≡ true
   scrub-first k e h =
-      let p : valid (present extents) (a + 0) k ≡ true = valid-part (present extents) a n 0 k (range-told _ plant a n t f e) (omega arith) in
+      let p : valid (present extents) (a + 0) k ≡ true = valid-part (present extents) a n 0 k (range-told _ a n t f e) (omega arith) in
       rw add-zero at p
 
-  pub scrub-refused : (r : Refusal) → t ≡ Told r → Follows extents plant (mem-scrub (valid (present extents)) plant a n) m (record { answer = Refused r; plant = plant }) m
-  unfolding mem-scrub apply
-  scrub-refused r e = rw (judged-refused (wholePages (valid (present extents)) a n) t f r e) (record { answer = refl; plant = refl; memory = refl })
-
-  pub scrub-done : (k : ℕ) (m′ : List ℕ) → t ≡ Right → k ≡ min n 32768 → m′ ≡ apply (present extents) m (one a (replicate k 0))
-      → Follows extents plant (mem-scrub (valid (present extents)) plant a n) m (record { answer = One k; plant = plant }) m′
-  unfolding mem-scrub
-  scrub-done k m′ e h w = rw (judged-right (wholePages (valid (present extents)) a n) t f e, ← h) (record { answer = refl; plant = refl; memory = w })
+  pub scrub-done : (plant : Plant) (k : ℕ) (m m′ : List ℕ) (d : Gave) → t ≡ Right → k ≡ min n 32768 → m′ ≡ apply (present extents) m (one a (replicate k 0)) → d ≡ doneBy (One k) Change.Nothing
+      → Follows extents plant (mem-scrub (valid (present extents)) plant a n) m d m′
+  unfolding mem-scrub plantAfter changedBy doneBy
+  scrub-done plant k m m′ d e h w g = rw (judged-right (wholePages (valid (present extents)) a n) t f e, ← h, g) (record { answer = refl; plant = refl; memory = w })
 
 -- a word
-module _ (extents : Extents) (plant : Plant) (m : List ℕ) (a : ℕ) (t : Verdict) (f : (rest : Ruling Outcome) → wholeWord (valid (present extents)) a rest ≡ judged t rest) where
+module _ (extents : Extents) (a : ℕ) (t : Verdict) (f : (rest : Ruling Outcome) → wholeWord (valid (present extents)) a rest ≡ judged t rest) where
   abbrev asked : Ruling Outcome → Ruling Outcome
   asked = wholeWord (valid (present extents)) a
 
-  place-told : t ≡ Right → eqb (a % 8) 0 ≡ true
-  unfolding wholeWord
-  place-told e = told-then _ _ _ (judged-told asked t f e (outcomeOf plant (done plant)))
+  module _ (e : t ≡ Right) where
+    word-told : verdictOf (asked (done anyPlant)) ≡ Right
+    word-told = judged-told asked t f e _
 
-  pub word-valid : t ≡ Right → valid (present extents) a 8 ≡ true
-  unfolding wholeWord
-  word-valid e = told-then _ _ _ (rw (place-told e) at (judged-told asked t f e (outcomeOf plant (done plant))))
+    place-told : eqb (a % 8) 0 ≡ true
+    unfolding wholeWord
+    place-told = told-then _ _ _ word-told
 
-  pub word-bytes-valid : (v : ℕ) (vs : List ℕ) → t ≡ Right → vs ≡ wordBytes v → valid (present extents) a (length vs) ≡ true
-  unfolding wordBytes
-  word-bytes-valid v vs e h = rw h (word-valid e)
+    pub word-valid : valid (present extents) a 8 ≡ true
+    unfolding wholeWord
+    word-valid = told-then _ _ _ (rw place-told at word-told)
 
-  pub store-refused : (v : ℕ) (r : Refusal) → t ≡ Told r → Follows extents plant (store-word (valid (present extents)) plant a v) m (record { answer = Refused r; plant = plant }) m
-  unfolding store-word apply
-  store-refused v r e = rw (judged-refused asked t f r e) (record { answer = refl; plant = refl; memory = refl })
+    pub word-bytes-valid : (v : ℕ) (vs : List ℕ) → vs ≡ wordBytes v → valid (present extents) a (length vs) ≡ true
+    unfolding wordBytes
+    word-bytes-valid v vs h = rw h word-valid
 
-  pub store-done : (v : ℕ) (vs m′ : List ℕ) → t ≡ Right → vs ≡ wordBytes v → m′ ≡ apply (present extents) m (one a vs)
-      → Follows extents plant (store-word (valid (present extents)) plant a v) m (record { answer = Done; plant = plant }) m′
-  unfolding store-word
-  store-done v vs m′ e h w = rw (judged-right asked t f e, ← h) (record { answer = refl; plant = refl; memory = w })
+  module _ (plant : Plant) where
+    pub store-refused : (v : ℕ) (r : Refusal) → t ≡ Told r → store-word (valid (present extents)) plant a v ≡ refused r
+    unfolding store-word
+    store-refused v r e = judged-refused asked t f r e _
 
-  pub load-refused : (r : Refusal) → t ≡ Told r → Follows extents plant (load-word (sightOf (present extents) m) plant a) m (record { answer = Refused r; plant = plant }) m
-  unfolding load-word apply
-  load-refused r e = rw (judged-refused asked t f r e) (record { answer = refl; plant = refl; memory = refl })
+    pub store-done : (v : ℕ) (vs m m′ : List ℕ) (d : Gave) → t ≡ Right → vs ≡ wordBytes v → m′ ≡ apply (present extents) m (one a vs) → d ≡ doneBy Done Change.Nothing
+        → Follows extents plant (store-word (valid (present extents)) plant a v) m d m′
+    unfolding store-word plantAfter changedBy doneBy
+    store-done v vs m m′ d e h w g = rw (judged-right asked t f e, ← h, g) (record { answer = refl; plant = refl; memory = w })
 
-  pub load-done : (v : ℕ) → t ≡ Right → v ≡ numberOf (byteAt (present extents) m) a 8
-      → Follows extents plant (load-word (sightOf (present extents) m) plant a) m (record { answer = One v; plant = plant }) m
-  unfolding load-word apply
-  load-done v e h = rw (judged-right asked t f e, ← h) (record { answer = refl; plant = refl; memory = refl })
+    pub load-refused : (m : List ℕ) (r : Refusal) → t ≡ Told r → load-word (sightOf (present extents) m) plant a ≡ refused r
+    unfolding load-word
+    load-refused m r e = judged-refused asked t f r e _
+
+    pub load-done : (m : List ℕ) (v : ℕ) → t ≡ Right → v ≡ numberOf (byteAt (present extents) m) a 8 → load-word (sightOf (present extents) m) plant a ≡ says (One v) plant
+    unfolding load-word
+    load-done m v e h = rw (judged-right asked t f e, ← h)

@@ -1,20 +1,21 @@
-// Memory by whole pages and by words: scrub (0x31), sync (0x32), store and load.
+// Memory by whole pages and by words: scrub (0x31), sync (0x32), store and load. None of them reads or changes the plant's
+// record, so the contracts hold for every plant.
 use plants::Done;
+use plants::told;
 use records::Verdict;
 use rules::Answer;
 use rules::Extents;
-use rules::Plant;
 use rules::Real;
 use rules::Refusal;
 ghost use mathlib.Core.Path.{_≡_};
 ghost use Prim.Native.Nat.{_≤_, min};
 ghost use lib.ListN.{length};
+ghost use Rattle.rules.specs.declared.Plant.{Plant as PlantRecord};
 ghost use Rattle.rules.specs.Limits.{extentLimit};
 ghost use Rattle.rules.specs.Real.{valid, sightOf};
 ghost use Rattle.rules.specs.Rulings.{Ruling, Outcome, outcomeOf};
 ghost use Rattle.rules.specs.Memory.{wholePages, wholeWord, mem-scrub, mem-sync, store-word, load-word};
-ghost use Rattle.memory.specs.Ready.{present};
-ghost use Rattle.records.specs.Sound.{Sound};
+ghost use Rattle.memory.specs.Ready.{present, Ready};
 ghost use Rattle.plants.specs.Done.{quietly};
 ghost use Rattle.plants.specs.Follows.{Follows};
 ghost use Rattle.plants.specs.Judged.{judged};
@@ -66,84 +67,63 @@ fn scrubbed(size: u64) -> u64
 }
 
 // 0x31: the first bytes of a range of pages become 0.
-pub fn mem_scrub(extents: Extents, plant: Plant, mem: &mut [u8], address: u64, size: u64) -> Done
-    requires { ⌜ Sound extents plant (length (now mem)) ⌝ }
-    ensures { λ r. ⌜ Follows extents plant (mem-scrub (valid (present extents)) plant address size) (now (mem .entry)) r (now (mem .exit)) ⌝ }
+pub fn mem_scrub(extents: Extents, mem: &mut [u8], address: u64, size: u64) -> Done
+    requires { ⌜ extents .count ≤ extentLimit ⌝ }
+    requires { ⌜ Ready (present extents) (length (now mem)) ⌝ }
+    ensures { λ r. ⌜ ((plant : PlantRecord) → Follows extents plant (mem-scrub (valid (present extents)) plant address size) (now (mem .entry)) r (now (mem .exit))) ⌝ }
 {
     let verdict = judge_pages(extents, address, size);
     match verdict {
-        Verdict::Refused(r) => Done {
-            answer: Answer::Refused(r),
-            plant,
-        },
+        Verdict::Refused(r) => told(Answer::Refused(r)),
         Verdict::Right => {
             let n = scrubbed(size);
             memory::zero_at(extents, mem, Real(address), n as usize);
-            Done {
-                answer: Answer::One(n),
-                plant,
-            }
+            told(Answer::One(n))
         }
     }
 }
 
 // 0x32: nothing is kept back, so all of a range of pages is there at once.
-pub fn mem_sync(extents: Extents, plant: Plant, address: u64, size: u64) -> Done
+pub fn mem_sync(extents: Extents, address: u64, size: u64) -> Done
     requires { ⌜ extents .count ≤ extentLimit ⌝ }
-    ensures { λ r. ⌜ quietly r ≡ outcomeOf plant (mem-sync (valid (present extents)) plant address size) ⌝ }
+    ensures { λ r. ⌜ ((plant : PlantRecord) → quietly plant r ≡ outcomeOf plant (mem-sync (valid (present extents)) plant address size)) ⌝ }
 {
     let verdict = judge_pages(extents, address, size);
     match verdict {
-        Verdict::Refused(r) => Done {
-            answer: Answer::Refused(r),
-            plant,
-        },
-        Verdict::Right => Done {
-            answer: Answer::One(size),
-            plant,
-        },
+        Verdict::Refused(r) => told(Answer::Refused(r)),
+        Verdict::Right => told(Answer::One(size)),
     }
 }
 
 // A store of one word.
-pub fn store_word(extents: Extents, plant: Plant, mem: &mut [u8], address: u64, value: u64) -> Done
-    requires { ⌜ Sound extents plant (length (now mem)) ⌝ }
-    ensures { λ r. ⌜ Follows extents plant (store-word (valid (present extents)) plant address value) (now (mem .entry)) r (now (mem .exit)) ⌝ }
+pub fn store_word(extents: Extents, mem: &mut [u8], address: u64, value: u64) -> Done
+    requires { ⌜ extents .count ≤ extentLimit ⌝ }
+    requires { ⌜ Ready (present extents) (length (now mem)) ⌝ }
+    ensures { λ r. ⌜ ((plant : PlantRecord) → Follows extents plant (store-word (valid (present extents)) plant address value) (now (mem .entry)) r (now (mem .exit))) ⌝ }
 {
     let verdict = judge_word(extents, address);
     match verdict {
-        Verdict::Refused(r) => Done {
-            answer: Answer::Refused(r),
-            plant,
-        },
+        Verdict::Refused(r) => told(Answer::Refused(r)),
         Verdict::Right => {
             let word = memory::word_bytes(value);
             memory::write_at(extents, mem, Real(address), &word);
-            Done {
-                answer: Answer::Done,
-                plant,
-            }
+            told(Answer::Done)
         }
     }
 }
 
 // A load of one word.
-pub fn load_word(extents: Extents, plant: Plant, mem: &[u8], address: u64) -> Done
-    requires { ⌜ Sound extents plant (length (now mem)) ⌝ }
-    ensures { λ r. ⌜ Follows extents plant (load-word (sightOf (present extents) (now (mem .entry))) plant address) (now (mem .entry)) r (now (mem .entry)) ⌝ }
+pub fn load_word(extents: Extents, mem: &[u8], address: u64) -> Done
+    requires { ⌜ extents .count ≤ extentLimit ⌝ }
+    requires { ⌜ Ready (present extents) (length (now mem)) ⌝ }
+    ensures { λ r. ⌜ ((plant : PlantRecord) → Follows extents plant (load-word (sightOf (present extents) (now (mem .entry))) plant address) (now (mem .entry)) r (now (mem .entry))) ⌝ }
 {
     let verdict = judge_word(extents, address);
     match verdict {
-        Verdict::Refused(r) => Done {
-            answer: Answer::Refused(r),
-            plant,
-        },
+        Verdict::Refused(r) => told(Answer::Refused(r)),
         Verdict::Right => {
             let word = memory::number8(extents, mem, Real(address));
-            Done {
-                answer: Answer::One(word),
-                plant,
-            }
+            told(Answer::One(word))
         }
     }
 }

@@ -1,5 +1,6 @@
 -- `words::store_word` meets its contract: each return is the rule's case, by the tests on the way.
 use borrow.Author.Needs.{needs}
+use Rattle.plants.proofs.OutcomeLaws.{quiet-refused}
 use Rattle.words.proofs.WordLaws.{word-bytes-valid, store-refused, store-done}
 use Rattle.words.proofs.store_word.Statement.{statement}
 use Rattle.words.proofs.store_word.Tie as tie
@@ -9,6 +10,9 @@ judge-word-requires c κs = search needs
 
 enum-known-verdict : tie.Need-enum-known-verdict
 enum-known-verdict c = search needs
+
+told-requires : tie.Need-told-requires
+told-requires c κs = search needs
 
 enum-told : tie.Need-enum-told
 enum-told c = search needs
@@ -22,8 +26,11 @@ slice-aggregate-write-at c = search needs
 write-at-requires : tie.Need-write-at-requires
 write-at-requires c κs = search word-bytes-valid
 
+told-requires-2 : tie.Need-told-requires-2
+told-requires-2 c κs = search needs
+
 returns : tie.Need-returns
-returns c = search store-refused
+returns c = search (quiet-refused, store-refused)
 
 same-length : tie.Need-same-length
 same-length c = search needs
@@ -37,10 +44,12 @@ store-word-spec =
     (tie.spec
     judge-word-requires
     enum-known-verdict
+    told-requires
     enum-told
     word-bytes-requires
     slice-aggregate-write-at
     write-at-requires
+    told-requires-2
     returns
     same-length
     returns-2)
