@@ -1,19 +1,28 @@
 -- The rule of the statistics address at each return of the code: t is what the address was judged to be.
 use mathlib.Core.Path.{_≡_, refl, sym, _∙_}
 use mathlib.Core.Bool.{Bool, true, false}
-use Prim.Native.Nat.{ℕ, _%_}
+use Prim.Native.Nat.{ℕ, _%_, _<_}
 use lib.Dec.{eqb}
 use borrow.Author.Tests.{eqb-true}
 use Rattle.rules.specs.declared.Plant.{Plant}
 use Rattle.rules.specs.declared.Refusal.{Refusal}
+use Rattle.rules.specs.declared.Answer.{Answer}
 use Rattle.rules.specs.declared.Answer.the-variants.{One, Refused}
+use Rattle.rules.specs.Limits.{cpuLimit}
 use Rattle.rules.specs.Kept.{cpuAt, withStatistics}
-use Rattle.rules.specs.Rulings.{granted, says}
+use Rattle.rules.specs.Rulings.{Ruling, granted, Outcome, outcomeOf, says}
 use Rattle.rules.specs.Memory.{newStatistics, mmustat-conf}
 use Rattle.records.specs.declared.Verdict.{Verdict}
 use Rattle.records.specs.declared.Verdict.the-variants.{Right, Refused as Told}
 use Rattle.records.specs.Verdict.{verdictOf}
 use Rattle.records.proofs.Told.{told-refused, told-then}
+use Rattle.plants.specs.declared.change.Change.{Change}
+use Rattle.plants.specs.declared.change.CpuChange.{CpuChange}
+use Rattle.plants.specs.declared.change.Done.{Done}
+use Rattle.plants.specs.Changes.{doneBy}
+use Rattle.plants.specs.Done.{quietly}
+use Rattle.plants.proofs.ChangeLaws.{statistics-after}
+use Rattle.plants.proofs.OutcomeLaws.{changes}
 
 -- an address that is right is granted as it was asked for
 module _ (v : ℕ → ℕ → Bool) (a : ℕ) (e : verdictOf (newStatistics v a) ≡ Right) where
@@ -34,6 +43,10 @@ module _ (v : ℕ → ℕ → Bool) (a : ℕ) (e : verdictOf (newStatistics v a)
       go : (t : Bool) → eqb a 0 ≡ t → newStatistics v a ≡ granted a
       go true z = none-told z
       go false z = some-told z
+
+-- d is what the code gives back: the cpu's address becomes a
+pub statistics-set : (plant : Plant) (x : Ruling Outcome) (d : Done) (answer : Answer) (cpu a : ℕ) → d ≡ doneBy answer (Change.Cpu cpu (CpuChange.Statistics a)) → x ≡ says answer (withStatistics plant cpu a) → cpu < cpuLimit → quietly plant d ≡ outcomeOf plant x
+statistics-set plant x d answer cpu a g e h = changes plant x d answer _ _ g (statistics-after plant _ _ cpu h a) e
 
 module _ (v : ℕ → ℕ → Bool) (plant : Plant) (cpu address : ℕ) (t : Verdict) (p : t ≡ verdictOf (newStatistics v address)) where
   -- this refusal changes the record

@@ -8,7 +8,7 @@ use native.Mathlib.Nat.{eq-or-lt-of-le}
 use native.Mathlib.Numerals.{add-one}
 use native.Mathlib.Omega.{arith}
 use lib.Dec.{eqb}
-use lib.ListN.{set}
+use lib.ListN.{set, replicate}
 use borrow.Author.Tests.{le-leb, lt-leb, eq-eqb, ne-eqb, not-true, not-false}
 use Rattle.rules.specs.declared.Answer.the-variants.{Done, Refused}
 use Rattle.rules.specs.declared.Extents.{Extents}
@@ -17,23 +17,26 @@ use Rattle.rules.specs.declared.Refusal.{Refusal}
 use Rattle.rules.specs.declared.Refusal.the-variants.{EINVAL, EBADALIGN, ENORADDR}
 use Rattle.rules.specs.declared.Tsb.{Tsb}
 use Rattle.rules.specs.declared.TsbList.{TsbList}
-use Rattle.rules.specs.Kept.{blankTsbs, withCtx0, withCtxnon0}
+use Rattle.rules.specs.Limits.{cpuLimit}
+use Rattle.rules.specs.Kept.{blankTsbs}
 use Rattle.rules.specs.Real.{Sight, sightOf, numberOf}
-use Rattle.rules.specs.Rulings.{refused, granted, _grants_, done, outcomeOf}
+use Rattle.rules.specs.Rulings.{Ruling, refused, granted, _grants_, done, outcomeOf}
 use Rattle.rules.specs.Queues.{powerFrom}
-use Rattle.rules.specs.Tsb.{descriptorAt, isPageIndex, insideMask, isLowest, judgedTsb, descriptors, newTsbs, mmu-tsb-ctx0, mmu-tsb-ctxnon0}
+use Rattle.rules.specs.Tsb.{descriptorAt, isPageIndex, insideMask, isLowest, judgedTsb, descriptors, newTsbs}
 use Rattle.memory.specs.Ready.{present}
 use Rattle.records.specs.declared.Verdict.{Verdict}
 use Rattle.records.specs.declared.Verdict.the-variants.{Right, Refused as Told}
 use Rattle.records.specs.Verdict.{verdictOf, isRight}
 use Rattle.records.proofs.Told.{told-refused, told-then}
 use Rattle.mmu.specs.declared.tsb.NewTsbs.{NewTsbs}
-use Rattle.plants.specs.declared.Done.{Done as Gave}
-use Rattle.plants.specs.Done.{quietly, saying}
+use Rattle.plants.specs.declared.change.Change.{Change}
+use Rattle.plants.specs.declared.change.Done.{Done as Gave}
+use Rattle.plants.specs.Changes.{doneBy, changedBy, plantAfter}
+use Rattle.plants.specs.Done.{quietly}
 use Rattle.plants.specs.Follows.{Follows}
 use Rattle.plants.proofs.OutcomeLaws.{quiet}
 use Rattle.plants.specs.Judged.{judged}
-use Rattle.mmu.specs.Lists.{listed}
+use Rattle.mmu.specs.Lists.{listed, settledBy, setTsbs}
 
 -- a descriptor that is right is granted as it was read
 module _ (v : ℕ → ℕ → Bool) (t : Tsb) (e : verdictOf (judgedTsb v t) ≡ Right) where
@@ -142,25 +145,33 @@ module _ (s : Sight) (ntsb pointer : ℕ) (r : NewTsbs) where
         unfolding newTsbs listed
         tsbs-listed e d = rw (ne-eqb ntsb 0 z, le-leb ntsb 4 h, eq-eqb (pointer % 8) 0 a, ← p, not-false b e) d
 
--- 0x20 and 0x21: what is refused is refused, and what is granted is put into the plant's record by w
-pub settled-refused : (plant next : Plant) (v : Verdict) (x : Refusal) → v ≡ Told x → saying plant (Refused x) ≡ outcomeOf plant (judged v (done next))
-unfolding judged
-settled-refused plant next v x e = rw e
+-- 0x20 and 0x21: what the code gives back is what the change makes of the record, by the verdict v
+module _ (v : Verdict) (change : Change) (tsbs : TsbList) where
+  pub settled-refused : (x : Refusal) (d : Gave) → v ≡ Told x → d ≡ doneBy (Refused x) Change.Nothing → d ≡ settledBy v change tsbs
+  unfolding settledBy
+  settled-refused x d e g = rw e g
 
-pub settled-right : (plant next : Plant) (v : Verdict) → v ≡ Right → saying next Done ≡ outcomeOf plant (judged v (done next))
-unfolding judged
-settled-right plant next v e = rw e
+  pub settled-right : v ≡ Right → record { answer = Done; change = change; tsbs = tsbs; tails = replicate cpuLimit 0 } ≡ settledBy v change tsbs
+  unfolding settledBy
+  settled-right e = rw e
 
-module _ (extents : Extents) (plant : Plant) (m : List ℕ) (cpu ntsb pointer : ℕ) (r : NewTsbs) (f : newTsbs (sightOf (present extents) m) ntsb pointer ≡ judged (r .verdict) (granted (r .tsbs))) (next : Plant) (d : Gave) (g : quietly d ≡ outcomeOf plant (judged (r .verdict) (done next))) where
-  granted-on : (w : TsbList → Plant) (v : Verdict) → next ≡ w (r .tsbs) → (judged v (granted (r .tsbs)) grants λ tsbs. done (w tsbs)) ≡ judged v (done next)
-  unfolding judged
-  granted-on w Right e = rw e
-  granted-on w (Told x) e = refl
+  settled-on : (plant : Plant) (y : Verdict) → quietly plant (settledBy y change tsbs) ≡ outcomeOf plant (judged y (granted tsbs) grants λ l. done (changedBy plant l (replicate cpuLimit 0) change))
+  unfolding settledBy judged plantAfter changedBy doneBy
+  settled-on plant Right = refl
+  settled-on plant (Told x) = refl
 
-  pub ctx0-set : next ≡ withCtx0 plant cpu (r .tsbs) → Follows extents plant (mmu-tsb-ctx0 (sightOf (present extents) m) plant cpu ntsb pointer) m d m
-  unfolding mmu-tsb-ctx0
-  ctx0-set e = quiet extents plant _ m d (g ∙ rw (f, granted-on (withCtx0 plant cpu) (r .verdict) e))
+module _ (extents : Extents) (plant : Plant) (m : List ℕ) (ntsb pointer : ℕ) (change : Change) (d : Gave) where
+  pub tsbs-set : (r : NewTsbs) → newTsbs (sightOf (present extents) m) ntsb pointer ≡ judged (r .verdict) (granted (r .tsbs)) → d ≡ settledBy (r .verdict) change (r .tsbs)
+      → Follows extents plant (setTsbs (sightOf (present extents) m) plant ntsb pointer change) m d m
+  unfolding setTsbs
+  tsbs-set r f g = quiet extents plant _ m d (rw (f, g) (settled-on (r .verdict) change (r .tsbs) plant (r .verdict)))
 
-  pub ctxnon0-set : next ≡ withCtxnon0 plant cpu (r .tsbs) → Follows extents plant (mmu-tsb-ctxnon0 (sightOf (present extents) m) plant cpu ntsb pointer) m d m
-  unfolding mmu-tsb-ctxnon0
-  ctxnon0-set e = quiet extents plant _ m d (g ∙ rw (f, granted-on (withCtxnon0 plant cpu) (r .verdict) e))
+  -- w is what the rule makes of the record
+  pub set-by : (w : TsbList → Plant) → ((tsbs : TsbList) → changedBy plant tsbs (replicate cpuLimit 0) change ≡ w tsbs) → Follows extents plant (setTsbs (sightOf (present extents) m) plant ntsb pointer change) m d m
+      → Follows extents plant (newTsbs (sightOf (present extents) m) ntsb pointer grants λ tsbs. done (w tsbs)) m d m
+  unfolding setTsbs
+  set-by w f h = go (newTsbs (sightOf (present extents) m) ntsb pointer) h
+    where
+      go : (x : Ruling TsbList) → Follows extents plant (x grants λ tsbs. done (changedBy plant tsbs (replicate cpuLimit 0) change)) m d m → Follows extents plant (x grants λ tsbs. done (w tsbs)) m d m
+      go (refused r) h = h
+      go (granted l) h = rw (f l) at h

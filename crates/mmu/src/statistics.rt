@@ -1,6 +1,8 @@
 // The statistics address: 0x102 and 0x103.
+use plants::Change;
+use plants::CpuChange;
 use plants::Done;
-use plants::with_statistics;
+use plants::done_by;
 use records::Verdict;
 use rules::Answer;
 use rules::Extents;
@@ -15,24 +17,18 @@ ghost use Rattle.plants.specs.Done.{quietly, saying, validIn};
 // 0x102: the address is set, and the one before told. A refused address is not kept, and neither is the one before.
 pub fn mmustat_conf(extents: Extents, plant: Plant, cpu: usize, address: u64) -> Done
     requires { ⌜ (extents .count ≤ extentLimit) × (cpu < cpuLimit) ⌝ }
-    ensures { λ r. ⌜ quietly r ≡ outcomeOf plant (mmustat-conf (validIn extents) plant cpu address) ⌝ }
+    ensures { λ r. ⌜ quietly plant r ≡ outcomeOf plant (mmustat-conf (validIn extents) plant cpu address) ⌝ }
 {
     let verdict = records::judge_statistics(extents, address);
     match verdict {
         Verdict::Refused(r) => {
-            let cleared = with_statistics(plant, cpu, 0);
-            Done {
-                answer: Answer::Refused(r),
-                plant: cleared,
-            }
+            let cleared = Change::Cpu(cpu, CpuChange::Statistics(0));
+            done_by(Answer::Refused(r), cleared)
         }
         Verdict::Right => {
             let before = plant.cpu[cpu];
-            let next = with_statistics(plant, cpu, address);
-            Done {
-                answer: Answer::One(before.statistics),
-                plant: next,
-            }
+            let set = Change::Cpu(cpu, CpuChange::Statistics(address));
+            done_by(Answer::One(before.statistics), set)
         }
     }
 }

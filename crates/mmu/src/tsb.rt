@@ -1,11 +1,12 @@
 // TSB lists: 0x20 and 0x21.
+use plants::Change;
+use plants::CpuChange;
 use plants::Done;
-use plants::with_ctx0;
-use plants::with_ctxnon0;
+use plants::told;
 use records::Verdict;
 use rules::Answer;
+use rules::CPUS;
 use rules::Extents;
-use rules::Plant;
 use rules::Real;
 use rules::Refusal;
 use rules::TSBS;
@@ -15,17 +16,16 @@ ghost use mathlib.Core.Path.{_≡_};
 ghost use mathlib.Core.Bool.{true};
 ghost use Prim.Native.Nat.{_*_, _<_, _≤_};
 ghost use lib.ListN.{length};
-ghost use Rattle.rules.specs.Limits.{extentLimit, tsbLimit};
+ghost use Rattle.rules.specs.declared.Plant.{Plant as PlantRecord};
+ghost use Rattle.rules.specs.Limits.{cpuLimit, extentLimit, tsbLimit};
 ghost use Rattle.rules.specs.Kept.{blankTsbs};
 ghost use Rattle.rules.specs.Real.{valid, byteAt, sightOf};
-ghost use Rattle.rules.specs.Rulings.{granted, done, outcomeOf};
+ghost use Rattle.rules.specs.Rulings.{granted};
 ghost use Rattle.rules.specs.Tsb.{descriptorAt, newTsbs, mmu-tsb-ctx0, mmu-tsb-ctxnon0};
 ghost use Rattle.memory.specs.Ready.{present, Ready};
-ghost use Rattle.records.specs.Sound.{Sound};
-ghost use Rattle.plants.specs.Done.{quietly};
 ghost use Rattle.plants.specs.Follows.{Follows};
 ghost use Rattle.plants.specs.Judged.{judged};
-ghost use Rattle.mmu.specs.Lists.{listed};
+ghost use Rattle.mmu.specs.Lists.{listed, settledBy, setTsbs};
 
 // A new list: all its descriptors are right, or a verdict refuses it and the list is blank.
 pub struct NewTsbs {
@@ -121,58 +121,51 @@ fn new_tsbs(extents: Extents, mem: &[u8], ntsb: u64, pointer: u64) -> NewTsbs
     read_tsbs(extents, mem, ntsb as u8, pointer)
 }
 
-// What 0x20 and 0x21 come to: next, which has the list, or the record as it was, where the list is refused.
-fn settled(plant: Plant, verdict: Verdict, next: Plant) -> Done
-    ensures { λ r. ⌜ quietly r ≡ outcomeOf plant (judged verdict (done next)) ⌝ }
+// What 0x20 and 0x21 come to: the change with its list, or no change, where the list is refused.
+fn settled(verdict: Verdict, change: Change, tsbs: TsbList) -> Done
+    ensures { λ r. ⌜ r ≡ settledBy verdict change tsbs ⌝ }
 {
     match verdict {
-        Verdict::Refused(r) => Done {
-            answer: Answer::Refused(r),
-            plant,
-        },
+        Verdict::Refused(r) => told(Answer::Refused(r)),
         Verdict::Right => Done {
             answer: Answer::Done,
-            plant: next,
+            change,
+            tsbs,
+            tails: [0; CPUS],
         },
     }
 }
 
-// 0x20: the list for context 0.
-pub fn mmu_tsb_ctx0(
-    extents: Extents,
-    plant: Plant,
-    mem: &[u8],
-    cpu: usize,
-    ntsb: u64,
-    pointer: u64,
-) -> Done
-    requires { ⌜ Sound extents plant (length (now mem)) ⌝ }
-    requires { ⌜ cpu < plant .cpus ⌝ }
-    ensures { λ r. ⌜ Follows extents plant (mmu-tsb-ctx0 (sightOf (present extents) (now (mem .entry))) plant cpu ntsb pointer) (now (mem .entry)) r (now (mem .entry)) ⌝ }
+// What 0x20 and 0x21 share: a new list is read, and the change sets it. The plant's record is not read.
+fn set_tsbs(extents: Extents, mem: &[u8], ntsb: u64, pointer: u64, change: Change) -> Done
+    requires { ⌜ extents .count ≤ extentLimit ⌝ }
+    requires { ⌜ Ready (present extents) (length (now mem)) ⌝ }
+    ensures { λ r. ⌜ ((plant : PlantRecord) → Follows extents plant (setTsbs (sightOf (present extents) (now (mem .entry))) plant ntsb pointer change) (now (mem .entry)) r (now (mem .entry))) ⌝ }
 {
     let new = new_tsbs(extents, mem, ntsb, pointer);
     let verdict = new.verdict;
     let tsbs = new.tsbs;
-    let next = with_ctx0(plant, cpu, tsbs);
-    settled(plant, verdict, next)
+    settled(verdict, change, tsbs)
 }
 
-// 0x21: the list for the other contexts.
-pub fn mmu_tsb_ctxnon0(
-    extents: Extents,
-    plant: Plant,
-    mem: &[u8],
-    cpu: usize,
-    ntsb: u64,
-    pointer: u64,
-) -> Done
-    requires { ⌜ Sound extents plant (length (now mem)) ⌝ }
-    requires { ⌜ cpu < plant .cpus ⌝ }
-    ensures { λ r. ⌜ Follows extents plant (mmu-tsb-ctxnon0 (sightOf (present extents) (now (mem .entry))) plant cpu ntsb pointer) (now (mem .entry)) r (now (mem .entry)) ⌝ }
+// 0x20: the list for context 0, whatever the plant's record is.
+pub fn mmu_tsb_ctx0(extents: Extents, mem: &[u8], cpu: usize, ntsb: u64, pointer: u64) -> Done
+    requires { ⌜ extents .count ≤ extentLimit ⌝ }
+    requires { ⌜ Ready (present extents) (length (now mem)) ⌝ }
+    requires { ⌜ cpu < cpuLimit ⌝ }
+    ensures { λ r. ⌜ ((plant : PlantRecord) → Follows extents plant (mmu-tsb-ctx0 (sightOf (present extents) (now (mem .entry))) plant cpu ntsb pointer) (now (mem .entry)) r (now (mem .entry))) ⌝ }
 {
-    let new = new_tsbs(extents, mem, ntsb, pointer);
-    let verdict = new.verdict;
-    let tsbs = new.tsbs;
-    let next = with_ctxnon0(plant, cpu, tsbs);
-    settled(plant, verdict, next)
+    let change = Change::Cpu(cpu, CpuChange::Ctx0);
+    set_tsbs(extents, mem, ntsb, pointer, change)
+}
+
+// 0x21: the list for the other contexts, whatever the plant's record is.
+pub fn mmu_tsb_ctxnon0(extents: Extents, mem: &[u8], cpu: usize, ntsb: u64, pointer: u64) -> Done
+    requires { ⌜ extents .count ≤ extentLimit ⌝ }
+    requires { ⌜ Ready (present extents) (length (now mem)) ⌝ }
+    requires { ⌜ cpu < cpuLimit ⌝ }
+    ensures { λ r. ⌜ ((plant : PlantRecord) → Follows extents plant (mmu-tsb-ctxnon0 (sightOf (present extents) (now (mem .entry))) plant cpu ntsb pointer) (now (mem .entry)) r (now (mem .entry))) ⌝ }
+{
+    let change = Change::Cpu(cpu, CpuChange::Ctxnon0);
+    set_tsbs(extents, mem, ntsb, pointer, change)
 }

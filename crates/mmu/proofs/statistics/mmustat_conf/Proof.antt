@@ -1,7 +1,6 @@
 -- `mmu::statistics::mmustat_conf` meets its contract: each return is the rule's case, by the verdict.
 use borrow.Author.Needs.{needs}
-use Rattle.plants.proofs.OutcomeLaws.{changes}
-use Rattle.mmu.proofs.StatisticsLaws.{conf-refused, conf-set}
+use Rattle.mmu.proofs.StatisticsLaws.{statistics-set, conf-refused, conf-set}
 use Rattle.mmu.proofs.statistics.mmustat_conf.Statement.{statement}
 use Rattle.mmu.proofs.statistics.mmustat_conf.Tie as tie
 
@@ -11,8 +10,8 @@ judge-statistics-requires c κs = search needs
 enum-known-verdict : tie.Need-enum-known-verdict
 enum-known-verdict c = search needs
 
-with-statistics-requires : tie.Need-with-statistics-requires
-with-statistics-requires c κs = search needs
+done-by-requires : tie.Need-done-by-requires
+done-by-requires c κs = search needs
 
 enum-told : tie.Need-enum-told
 enum-told c = search needs
@@ -23,14 +22,14 @@ mul-before c = search needs
 element-copy-out-before : tie.Need-element-copy-out-before
 element-copy-out-before c = search needs
 
-with-statistics-requires-2 : tie.Need-with-statistics-requires-2
-with-statistics-requires-2 c κs = search needs
+done-by-requires-2 : tie.Need-done-by-requires-2
+done-by-requires-2 c κs = search needs
 
 returns : tie.Need-returns
-returns c = search (changes, conf-refused)
+returns c = search (statistics-set, conf-refused)
 
 returns-2 : tie.Need-returns-2
-returns-2 c = search (changes, conf-set)
+returns-2 c = search (statistics-set, conf-set)
 
 pub mmustat-conf-spec : {M : Type 1} → statement M
 mmustat-conf-spec =
@@ -38,10 +37,10 @@ mmustat-conf-spec =
     (tie.spec
     judge-statistics-requires
     enum-known-verdict
-    with-statistics-requires
+    done-by-requires
     enum-told
     mul-before
     element-copy-out-before
-    with-statistics-requires-2
+    done-by-requires-2
     returns
     returns-2)

@@ -1,20 +1,18 @@
--- `mmu::tsb::mmu_tsb_ctx0` meets its contract: the rule, from what the list came to.
+-- `mmu::tsb::mmu_tsb_ctx0` meets its contract: its change is what the rule makes of the record.
 use borrow.Author.Needs.{needs}
-use Rattle.mmu.proofs.TsbLaws.{ctx0-set}
+use Rattle.rules.specs.Kept.{withCtx0}
+use Rattle.rules.specs.Tsb.{mmu-tsb-ctx0}
+use Rattle.plants.proofs.ChangeLaws.{ctx0-after}
+use Rattle.mmu.proofs.TsbLaws.{set-by}
 use Rattle.mmu.proofs.tsb.mmu_tsb_ctx0.Statement.{statement}
 use Rattle.mmu.proofs.tsb.mmu_tsb_ctx0.Tie as tie
 
-new-tsbs-requires : tie.Need-new-tsbs-requires
-new-tsbs-requires c κs = search needs
-
-with-ctx0-requires : tie.Need-with-ctx0-requires
-with-ctx0-requires c κs = search needs
-
-settled-requires : tie.Need-settled-requires
-settled-requires c κs = search needs
+set-tsbs-requires : tie.Need-set-tsbs-requires
+set-tsbs-requires c κs = search needs
 
 returns : tie.Need-returns
-returns c = search ctx0-set
+unfolding mmu-tsb-ctx0
+returns c = λ plant. set-by _ plant _ _ _ _ _ (withCtx0 plant _) (λ tsbs. ctx0-after plant tsbs _ _ (search needs)) (c .set-tsbs .ensures plant)
 
 pub mmu-tsb-ctx0-spec : {M : Type 1} → statement M
-mmu-tsb-ctx0-spec = tie.close (tie.spec new-tsbs-requires with-ctx0-requires settled-requires returns)
+mmu-tsb-ctx0-spec = tie.close (tie.spec set-tsbs-requires returns)

@@ -1,20 +1,18 @@
--- `mmu::tsb::mmu_tsb_ctxnon0` meets its contract: the rule, from what the list came to.
+-- `mmu::tsb::mmu_tsb_ctxnon0` meets its contract: its change is what the rule makes of the record.
 use borrow.Author.Needs.{needs}
-use Rattle.mmu.proofs.TsbLaws.{ctxnon0-set}
+use Rattle.rules.specs.Kept.{withCtxnon0}
+use Rattle.rules.specs.Tsb.{mmu-tsb-ctxnon0}
+use Rattle.plants.proofs.ChangeLaws.{ctxnon0-after}
+use Rattle.mmu.proofs.TsbLaws.{set-by}
 use Rattle.mmu.proofs.tsb.mmu_tsb_ctxnon0.Statement.{statement}
 use Rattle.mmu.proofs.tsb.mmu_tsb_ctxnon0.Tie as tie
 
-new-tsbs-requires : tie.Need-new-tsbs-requires
-new-tsbs-requires c κs = search needs
-
-with-ctxnon0-requires : tie.Need-with-ctxnon0-requires
-with-ctxnon0-requires c κs = search needs
-
-settled-requires : tie.Need-settled-requires
-settled-requires c κs = search needs
+set-tsbs-requires : tie.Need-set-tsbs-requires
+set-tsbs-requires c κs = search needs
 
 returns : tie.Need-returns
-returns c = search ctxnon0-set
+unfolding mmu-tsb-ctxnon0
+returns c = λ plant. set-by _ plant _ _ _ _ _ (withCtxnon0 plant _) (λ tsbs. ctxnon0-after plant tsbs _ _ (search needs)) (c .set-tsbs .ensures plant)
 
 pub mmu-tsb-ctxnon0-spec : {M : Type 1} → statement M
-mmu-tsb-ctxnon0-spec = tie.close (tie.spec new-tsbs-requires with-ctxnon0-requires settled-requires returns)
+mmu-tsb-ctxnon0-spec = tie.close (tie.spec set-tsbs-requires returns)

@@ -7,6 +7,9 @@ use Rattle.mmu.proofs.tsb.settled.Tie as tie
 enum-known-verdict : tie.Need-enum-known-verdict
 enum-known-verdict c = search needs
 
+told-requires : tie.Need-told-requires
+told-requires c κs = search needs
+
 enum-told : tie.Need-enum-told
 enum-told c = search needs
 
@@ -17,4 +20,4 @@ returns-2 : tie.Need-returns-2
 returns-2 c = search settled-right
 
 pub settled-spec : {M : Type 1} → statement M
-settled-spec = tie.close (tie.spec enum-known-verdict enum-told returns returns-2)
+settled-spec = tie.close (tie.spec enum-known-verdict told-requires enum-told returns returns-2)
