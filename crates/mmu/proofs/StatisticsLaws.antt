@@ -44,10 +44,6 @@ module _ (v : ℕ → ℕ → Bool) (a : ℕ) (e : verdictOf (newStatistics v a)
       go true z = none-told z
       go false z = some-told z
 
--- d is what the code gives back: the cpu's address becomes a
-pub statistics-set : (plant : Plant) (x : Ruling Outcome) (d : Done) (answer : Answer) (cpu a : ℕ) → d ≡ doneBy answer (Change.Cpu cpu (CpuChange.Statistics a)) → x ≡ says answer (withStatistics plant cpu a) → cpu < cpuLimit → quietly plant d ≡ outcomeOf plant x
-statistics-set plant x d answer cpu a g e h = changes plant x d answer _ _ g (statistics-after plant _ _ cpu h a) e
-
 module _ (v : ℕ → ℕ → Bool) (plant : Plant) (cpu address : ℕ) (t : Verdict) (p : t ≡ verdictOf (newStatistics v address)) where
   -- this refusal changes the record
   pub conf-refused : (r : Refusal) → t ≡ Told r → mmustat-conf v plant cpu address ≡ says (Refused r) (withStatistics plant cpu 0)

@@ -1,6 +1,7 @@
 -- `mmu::statistics::mmustat_conf` meets its contract: each return is the rule's case, by the verdict.
 use borrow.Author.Needs.{needs}
-use Rattle.mmu.proofs.StatisticsLaws.{statistics-set, conf-refused, conf-set}
+use Rattle.plants.proofs.OutcomeLaws.{statistics-changes}
+use Rattle.mmu.proofs.StatisticsLaws.{conf-refused, conf-set}
 use Rattle.mmu.proofs.statistics.mmustat_conf.Statement.{statement}
 use Rattle.mmu.proofs.statistics.mmustat_conf.Tie as tie
 
@@ -26,10 +27,10 @@ done-by-requires-2 : tie.Need-done-by-requires-2
 done-by-requires-2 c κs = search needs
 
 returns : tie.Need-returns
-returns c = search (statistics-set, conf-refused)
+returns c = search (statistics-changes, conf-refused)
 
 returns-2 : tie.Need-returns-2
-returns-2 c = search (statistics-set, conf-set)
+returns-2 c = search (statistics-changes, conf-set)
 
 pub mmustat-conf-spec : {M : Type 1} → statement M
 mmustat-conf-spec =
