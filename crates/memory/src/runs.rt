@@ -52,27 +52,6 @@ pub fn number(mem: &[u8], at: usize, k: usize) -> u64
     v
 }
 
-pub fn read_half(mem: &[u8], at: usize) -> u16
-    requires { ⌜ at + 2 ≤ length (now mem) ⌝ }
-    ensures { λ r. ⌜ r ≡ numberOf (cell (now (mem .entry))) at 2 ⌝ }
-{
-    number(mem, at, 2) as u16
-}
-
-pub fn read_u32(mem: &[u8], at: usize) -> u32
-    requires { ⌜ at + 4 ≤ length (now mem) ⌝ }
-    ensures { λ r. ⌜ r ≡ numberOf (cell (now (mem .entry))) at 4 ⌝ }
-{
-    number(mem, at, 4) as u32
-}
-
-pub fn read_word(mem: &[u8], at: usize) -> u64
-    requires { ⌜ at + 8 ≤ length (now mem) ⌝ }
-    ensures { λ r. ⌜ r ≡ numberOf (cell (now (mem .entry))) at 8 ⌝ }
-{
-    number(mem, at, 8)
-}
-
 // The 64 bytes from the offset at.
 pub fn copy64(mem: &[u8], at: usize) -> [u8; 64]
     requires { ⌜ at + 64 ≤ length (now mem) ⌝ }

@@ -1,5 +1,5 @@
 -- Promise: no second outcome, of the calls and of what they share, which the crates below `calls` give it and each other. As in
--- Determined.
+-- Determined. A call tells what it changes of a plant's record: there is one answer and one record after, however it is told.
 use mathlib.Core.Path.{_≡_, sym, _∙_}
 use mathlib.Core.List.{List}
 use Prim.Native.Nat.{ℕ}
@@ -9,16 +9,16 @@ use Rattle.rules.specs.declared.Extents.{Extents}
 use Rattle.rules.specs.declared.Plant.{Plant}
 use Rattle.rules.specs.Kept.{hollowGuest}
 use Rattle.rules.specs.Rulings.{Ruling, Outcome}
-use Rattle.plants.specs.declared.Done.{Done}
+use Rattle.plants.specs.declared.change.Done.{Done}
+use Rattle.plants.specs.Changes.{plantAfter}
 use Rattle.plants.specs.Done.{quietly, saying}
 use Rattle.plants.specs.Follows.{Follows}
 use Rattle.plants.proofs.queue_at.Reads as queue-at-reads
-use Rattle.plants.proofs.with_queue.Reads as with-queue-reads
-use Rattle.plants.proofs.with_statistics.Reads as with-statistics-reads
-use Rattle.plants.proofs.with_source.Reads as with-source-reads
-use Rattle.plants.proofs.with_ctx0.Reads as with-ctx0-reads
-use Rattle.plants.proofs.with_ctxnon0.Reads as with-ctxnon0-reads
+use Rattle.plants.proofs.at_tail.Reads as at-tail-reads
 use Rattle.plants.proofs.told.Reads as told-reads
+use Rattle.plants.proofs.done_by.Reads as done-by-reads
+use Rattle.plants.proofs.is_change.Reads as is-change-reads
+use Rattle.plants.proofs.plant_after.Reads as plant-after-reads
 use Rattle.plants.proofs.put_entry.Reads as put-entry-reads
 use Rattle.versions.proofs.set_version.Reads as set-version-reads
 use Rattle.versions.proofs.get_version.Reads as get-version-reads
@@ -39,56 +39,57 @@ use Rattle.sources.proofs.intr.Reads as intr-reads
 use Rattle.sources.proofs.vintr.Reads as vintr-reads
 use Rattle.sources.proofs.intr_devino2sysino.Reads as intr-devino2sysino-reads
 use Rattle.raise.proofs.raise_at.Reads as raise-at-reads
+use Rattle.calls.proofs.plant_event.Reads as plant-event-reads
 
--- what gives one outcome is one: an answer and a record, an answer alone, or both and the memory after
-one-done : (o : Outcome) (r s : Done) → quietly r ≡ o → quietly s ≡ o → r ≡ s
-one-done o r s p q = λ i. record { answer = (p ∙ sym q) i .answer; plant = (p ∙ sym q) i .plant }
+-- the same answer, and the same record after
+abbrev Same : Plant → Done → Done → Type 0
+Same plant r s = (r .answer ≡ s .answer) × (plantAfter plant r ≡ plantAfter plant s)
+
+-- what gives one outcome is one: an answer and a record after, an answer alone, or both and the memory after
+one-done : (plant : Plant) (o : Outcome) (r s : Done) → quietly plant r ≡ o → quietly plant s ≡ o → Same plant r s
+one-done plant o r s p q = ((λ i. (p ∙ sym q) i .answer), (λ i. (p ∙ sym q) i .plant))
 
 one-answer : (plant : Plant) (o : Outcome) (r s : Answer) → saying plant r ≡ o → saying plant s ≡ o → r ≡ s
 one-answer plant o r s p q = λ i. (p ∙ sym q) i .answer
 
-one-following : (e : Extents) (plant : Plant) (x : Ruling Outcome) (before : List ℕ) (r s : Done) (m n : List ℕ) → Follows e plant x before r m → Follows e plant x before s n → (r ≡ s) × (m ≡ n)
-one-following e plant x before r s m n p q =
-    ((λ i. record { answer = (p .answer ∙ sym (q .answer)) i; plant = (p .plant ∙ sym (q .plant)) i }), p .memory ∙ sym (q .memory))
+one-following : (e : Extents) (plant : Plant) (x : Ruling Outcome) (before : List ℕ) (r s : Done) (m n : List ℕ) → Follows e plant x before r m → Follows e plant x before s n → Same plant r s × (m ≡ n)
+one-following e plant x before r s m n p q = ((p .answer ∙ sym (q .answer), p .plant ∙ sym (q .plant)), p .memory ∙ sym (q .memory))
 
 -- plants: what the calls share: a part of the record, and an entry in a ring
 pub queue-at-determined : (κs : _) (a : _) (r s : _) (ws vs : _) → queue-at-reads.Post κs a r ws → queue-at-reads.Post κs a s vs → r ≡ s
 queue-at-determined κs a r s ws vs p q = p ∙ sym q
 
-pub with-queue-determined : (κs : _) (a : _) (r s : _) (ws vs : _) → with-queue-reads.Post κs a r ws → with-queue-reads.Post κs a s vs → r ≡ s
-with-queue-determined κs a r s ws vs p q = p ∙ sym q
-
-pub with-statistics-determined : (κs : _) (a : _) (r s : _) (ws vs : _) → with-statistics-reads.Post κs a r ws → with-statistics-reads.Post κs a s vs → r ≡ s
-with-statistics-determined κs a r s ws vs p q = p ∙ sym q
-
-pub with-source-determined : (κs : _) (a : _) (r s : _) (ws vs : _) → with-source-reads.Post κs a r ws → with-source-reads.Post κs a s vs → r ≡ s
-with-source-determined κs a r s ws vs p q = p ∙ sym q
-
-pub with-ctx0-determined : (κs : _) (a : _) (r s : _) (ws vs : _) → with-ctx0-reads.Post κs a r ws → with-ctx0-reads.Post κs a s vs → r ≡ s
-with-ctx0-determined κs a r s ws vs p q = p ∙ sym q
-
-pub with-ctxnon0-determined : (κs : _) (a : _) (r s : _) (ws vs : _) → with-ctxnon0-reads.Post κs a r ws → with-ctxnon0-reads.Post κs a s vs → r ≡ s
-with-ctxnon0-determined κs a r s ws vs p q = p ∙ sym q
+pub at-tail-determined : (κs : _) (a : _) (r s : _) (ws vs : _) → at-tail-reads.Post κs a r ws → at-tail-reads.Post κs a s vs → r ≡ s
+at-tail-determined κs a r s ws vs p q = p ∙ sym q
 
 pub told-determined : (κs : _) (a : _) (r s : _) (ws vs : _) → told-reads.Post κs a r ws → told-reads.Post κs a s vs → r ≡ s
-told-determined κs a r s ws vs p q = one-done _ r s p q
+told-determined κs a r s ws vs p q = p ∙ sym q
+
+pub done-by-determined : (κs : _) (a : _) (r s : _) (ws vs : _) → done-by-reads.Post κs a r ws → done-by-reads.Post κs a s vs → r ≡ s
+done-by-determined κs a r s ws vs p q = p ∙ sym q
+
+pub is-change-determined : (κs : _) (a : _) (r s : _) (ws vs : _) → is-change-reads.Post κs a r ws → is-change-reads.Post κs a s vs → r ≡ s
+is-change-determined κs a r s ws vs p q = p ∙ sym q
+
+pub plant-after-determined : (κs : _) (a : _) (r s : _) (ws vs : _) → plant-after-reads.Post κs a r ws → plant-after-reads.Post κs a s vs → r ≡ s
+plant-after-determined κs a r s ws vs p q = p ∙ sym q
 
 pub put-entry-determined : (κs : _) (a : _) (r s : _) (ws vs : _) → put-entry-reads.Post κs a r ws → put-entry-reads.Post κs a s vs → (r ≡ s) × (now (ws .1 .1 .0) ≡ now (vs .1 .1 .0))
 put-entry-determined κs a r s ws vs p q = ((λ i. record { held = (p .held ∙ sym (q .held)) i; room = (p .room ∙ sym (q .room)) i }), p .memory ∙ sym (q .memory))
 
 -- versions: set version and get version
-pub set-version-determined : (κs : _) (a : _) (r s : _) (ws vs : _) → set-version-reads.Post κs a r ws → set-version-reads.Post κs a s vs → r ≡ s
-set-version-determined κs a r s ws vs p q = one-done _ r s p q
+pub set-version-determined : (κs : _) (a : _) (r s : _) (ws vs : _) → set-version-reads.Post κs a r ws → set-version-reads.Post κs a s vs → Same (a .0) r s
+set-version-determined κs a r s ws vs p q = one-done _ _ r s p q
 
 pub get-version-determined : (κs : _) (a : _) (r s : _) (ws vs : _) → get-version-reads.Post κs a r ws → get-version-reads.Post κs a s vs → r ≡ s
 get-version-determined κs a r s ws vs p q = one-answer _ _ r s p q
 
 -- queues: 0x14, 0x15, 0x16 and the head write
-pub cpu-qconf-determined : (κs : _) (a : _) (r s : _) (ws vs : _) → cpu-qconf-reads.Post κs a r ws → cpu-qconf-reads.Post κs a s vs → r ≡ s
-cpu-qconf-determined κs a r s ws vs p q = one-done _ r s p q
+pub cpu-qconf-determined : (κs : _) (a : _) (r s : _) (ws vs : _) → cpu-qconf-reads.Post κs a r ws → cpu-qconf-reads.Post κs a s vs → Same (a .1 .0) r s
+cpu-qconf-determined κs a r s ws vs p q = one-done _ _ r s p q
 
-pub write-head-determined : (κs : _) (a : _) (r s : _) (ws vs : _) → write-head-reads.Post κs a r ws → write-head-reads.Post κs a s vs → r ≡ s
-write-head-determined κs a r s ws vs p q = one-done _ r s p q
+pub write-head-determined : (κs : _) (a : _) (r s : _) (ws vs : _) → write-head-reads.Post κs a r ws → write-head-reads.Post κs a s vs → Same (a .0) r s
+write-head-determined κs a r s ws vs p q = one-done _ _ r s p q
 
 pub cpu-qinfo-determined : (κs : _) (a : _) (r s : _) (ws vs : _) → cpu-qinfo-reads.Post κs a r ws → cpu-qinfo-reads.Post κs a s vs → r ≡ s
 cpu-qinfo-determined κs a r s ws vs p q = one-answer _ _ r s p q
@@ -97,45 +98,49 @@ pub cpu-myid-determined : (κs : _) (a : _) (r s : _) (ws vs : _) → cpu-myid-r
 cpu-myid-determined κs a r s ws vs p q = one-answer (hollowGuest .plant) _ r s (p (hollowGuest .plant)) (q (hollowGuest .plant))
 
 -- mondo: 0x42
-pub cpu-mondo-send-determined : (κs : _) (a : _) (r s : _) (ws vs : _) → cpu-mondo-send-reads.Post κs a r ws → cpu-mondo-send-reads.Post κs a s vs → (r ≡ s) × (now (ws .1 .1 .0) ≡ now (vs .1 .1 .0))
+pub cpu-mondo-send-determined : (κs : _) (a : _) (r s : _) (ws vs : _) → cpu-mondo-send-reads.Post κs a r ws → cpu-mondo-send-reads.Post κs a s vs → Same (a .1 .0) r s × (now (ws .1 .1 .0) ≡ now (vs .1 .1 .0))
 cpu-mondo-send-determined κs a r s ws vs p q = one-following _ _ _ _ r s _ _ p q
 
 -- mmu: 0x20, 0x21, 0x102 and 0x103
-pub mmustat-conf-determined : (κs : _) (a : _) (r s : _) (ws vs : _) → mmustat-conf-reads.Post κs a r ws → mmustat-conf-reads.Post κs a s vs → r ≡ s
-mmustat-conf-determined κs a r s ws vs p q = one-done _ r s p q
+pub mmustat-conf-determined : (κs : _) (a : _) (r s : _) (ws vs : _) → mmustat-conf-reads.Post κs a r ws → mmustat-conf-reads.Post κs a s vs → Same (a .1 .0) r s
+mmustat-conf-determined κs a r s ws vs p q = one-done _ _ r s p q
 
 pub mmustat-info-determined : (κs : _) (a : _) (r s : _) (ws vs : _) → mmustat-info-reads.Post κs a r ws → mmustat-info-reads.Post κs a s vs → r ≡ s
 mmustat-info-determined κs a r s ws vs p q = one-answer _ _ r s p q
 
-pub mmu-tsb-ctx0-determined : (κs : _) (a : _) (r s : _) (ws vs : _) → mmu-tsb-ctx0-reads.Post κs a r ws → mmu-tsb-ctx0-reads.Post κs a s vs → r ≡ s
-mmu-tsb-ctx0-determined κs a r s ws vs p q = one-following _ _ _ _ r s _ _ p q .0
+pub mmu-tsb-ctx0-determined : (κs : _) (a : _) (r s : _) (ws vs : _) → mmu-tsb-ctx0-reads.Post κs a r ws → mmu-tsb-ctx0-reads.Post κs a s vs → (plant : Plant) → Same plant r s
+mmu-tsb-ctx0-determined κs a r s ws vs p q plant = one-following _ _ _ _ r s _ _ (p plant) (q plant) .0
 
-pub mmu-tsb-ctxnon0-determined : (κs : _) (a : _) (r s : _) (ws vs : _) → mmu-tsb-ctxnon0-reads.Post κs a r ws → mmu-tsb-ctxnon0-reads.Post κs a s vs → r ≡ s
-mmu-tsb-ctxnon0-determined κs a r s ws vs p q = one-following _ _ _ _ r s _ _ p q .0
+pub mmu-tsb-ctxnon0-determined : (κs : _) (a : _) (r s : _) (ws vs : _) → mmu-tsb-ctxnon0-reads.Post κs a r ws → mmu-tsb-ctxnon0-reads.Post κs a s vs → (plant : Plant) → Same plant r s
+mmu-tsb-ctxnon0-determined κs a r s ws vs p q plant = one-following _ _ _ _ r s _ _ (p plant) (q plant) .0
 
 -- words: 0x31, 0x32, store and load
-pub mem-sync-determined : (κs : _) (a : _) (r s : _) (ws vs : _) → mem-sync-reads.Post κs a r ws → mem-sync-reads.Post κs a s vs → r ≡ s
-mem-sync-determined κs a r s ws vs p q = one-done _ r s p q
+pub mem-sync-determined : (κs : _) (a : _) (r s : _) (ws vs : _) → mem-sync-reads.Post κs a r ws → mem-sync-reads.Post κs a s vs → (plant : Plant) → Same plant r s
+mem-sync-determined κs a r s ws vs p q plant = one-done _ _ r s (p plant) (q plant)
 
-pub mem-scrub-determined : (κs : _) (a : _) (r s : _) (ws vs : _) → mem-scrub-reads.Post κs a r ws → mem-scrub-reads.Post κs a s vs → (r ≡ s) × (now (ws .1 .1 .0) ≡ now (vs .1 .1 .0))
-mem-scrub-determined κs a r s ws vs p q = one-following _ _ _ _ r s _ _ p q
+pub mem-scrub-determined : (κs : _) (a : _) (r s : _) (ws vs : _) → mem-scrub-reads.Post κs a r ws → mem-scrub-reads.Post κs a s vs → (plant : Plant) → Same plant r s × (now (ws .1 .0) ≡ now (vs .1 .0))
+mem-scrub-determined κs a r s ws vs p q plant = one-following _ _ _ _ r s _ _ (p plant) (q plant)
 
-pub store-word-determined : (κs : _) (a : _) (r s : _) (ws vs : _) → store-word-reads.Post κs a r ws → store-word-reads.Post κs a s vs → (r ≡ s) × (now (ws .1 .1 .0) ≡ now (vs .1 .1 .0))
-store-word-determined κs a r s ws vs p q = one-following _ _ _ _ r s _ _ p q
+pub store-word-determined : (κs : _) (a : _) (r s : _) (ws vs : _) → store-word-reads.Post κs a r ws → store-word-reads.Post κs a s vs → (plant : Plant) → Same plant r s × (now (ws .1 .0) ≡ now (vs .1 .0))
+store-word-determined κs a r s ws vs p q plant = one-following _ _ _ _ r s _ _ (p plant) (q plant)
 
-pub load-word-determined : (κs : _) (a : _) (r s : _) (ws vs : _) → load-word-reads.Post κs a r ws → load-word-reads.Post κs a s vs → r ≡ s
-load-word-determined κs a r s ws vs p q = one-following _ _ _ _ r s _ _ p q .0
+pub load-word-determined : (κs : _) (a : _) (r s : _) (ws vs : _) → load-word-reads.Post κs a r ws → load-word-reads.Post κs a s vs → (plant : Plant) → Same plant r s
+load-word-determined κs a r s ws vs p q plant = one-following _ _ _ _ r s _ _ (p plant) (q plant) .0
 
 -- sources: 0xa0 to 0xae
-pub intr-determined : (κs : _) (a : _) (r s : _) (ws vs : _) → intr-reads.Post κs a r ws → intr-reads.Post κs a s vs → r ≡ s
-intr-determined κs a r s ws vs p q = one-done _ r s p q
+pub intr-determined : (κs : _) (a : _) (r s : _) (ws vs : _) → intr-reads.Post κs a r ws → intr-reads.Post κs a s vs → Same (a .0) r s
+intr-determined κs a r s ws vs p q = one-done _ _ r s p q
 
-pub vintr-determined : (κs : _) (a : _) (r s : _) (ws vs : _) → vintr-reads.Post κs a r ws → vintr-reads.Post κs a s vs → r ≡ s
-vintr-determined κs a r s ws vs p q = one-done _ r s p q
+pub vintr-determined : (κs : _) (a : _) (r s : _) (ws vs : _) → vintr-reads.Post κs a r ws → vintr-reads.Post κs a s vs → Same (a .0) r s
+vintr-determined κs a r s ws vs p q = one-done _ _ r s p q
 
 pub intr-devino2sysino-determined : (κs : _) (a : _) (r s : _) (ws vs : _) → intr-devino2sysino-reads.Post κs a r ws → intr-devino2sysino-reads.Post κs a s vs → r ≡ s
 intr-devino2sysino-determined κs a r s ws vs p q = one-answer _ _ r s p q
 
 -- raise: raise
-pub raise-at-determined : (κs : _) (a : _) (r s : _) (ws vs : _) → raise-at-reads.Post κs a r ws → raise-at-reads.Post κs a s vs → (r ≡ s) × (now (ws .1 .1 .0) ≡ now (vs .1 .1 .0))
+pub raise-at-determined : (κs : _) (a : _) (r s : _) (ws vs : _) → raise-at-reads.Post κs a r ws → raise-at-reads.Post κs a s vs → Same (a .1 .0) r s × (now (ws .1 .1 .0) ≡ now (vs .1 .1 .0))
 raise-at-determined κs a r s ws vs p q = one-following _ _ _ _ r s _ _ p q
+
+-- calls: a plant's own event
+pub plant-event-determined : (κs : _) (a : _) (r s : _) (ws vs : _) → plant-event-reads.Post κs a r ws → plant-event-reads.Post κs a s vs → Same (a .1 .0) r s × (now (ws .1 .1 .0) ≡ now (vs .1 .1 .0))
+plant-event-determined κs a r s ws vs p q = one-following _ _ _ _ r s _ _ p q

@@ -11,9 +11,6 @@ use Rattle.memory.proofs.number2.Reads as number2-reads
 use Rattle.memory.proofs.number4.Reads as number4-reads
 use Rattle.memory.proofs.number8.Reads as number8-reads
 use Rattle.memory.proofs.bytes64.Reads as bytes64-reads
-use Rattle.memory.proofs.read_half.Reads as read-half-reads
-use Rattle.memory.proofs.read_u32.Reads as read-u32-reads
-use Rattle.memory.proofs.read_word.Reads as read-word-reads
 use Rattle.memory.proofs.copy64.Reads as copy64-reads
 use Rattle.memory.proofs.word_bytes.Reads as word-bytes-reads
 use Rattle.partition.proofs.extent_right.Reads as extent-right-reads
@@ -33,7 +30,6 @@ use Rattle.records.proofs.is_page_index.Reads as is-page-index-reads
 use Rattle.records.proofs.inside_mask.Reads as inside-mask-reads
 use Rattle.records.proofs.judge_tsb.Reads as judge-tsb-reads
 use Rattle.sources.proofs.sysino_of.Reads as sysino-of-reads
-use Rattle.calls.proofs.plant_event.Reads as plant-event-reads
 use Rattle.memory.proofs.write.Reads as write-reads
 use Rattle.memory.proofs.zero.Reads as zero-reads
 use Rattle.memory.proofs.write_at.Reads as write-at-reads
@@ -70,15 +66,6 @@ number8-determined κs a r s ws vs p q = p ∙ sym q
 
 pub bytes64-determined : (κs : _) (a : _) (r s : _) (ws vs : _) → bytes64-reads.Post κs a r ws → bytes64-reads.Post κs a s vs → r ≡ s
 bytes64-determined κs a r s ws vs p q = p ∙ sym q
-
-pub read-half-determined : (κs : _) (a : _) (r s : _) (ws vs : _) → read-half-reads.Post κs a r ws → read-half-reads.Post κs a s vs → r ≡ s
-read-half-determined κs a r s ws vs p q = p ∙ sym q
-
-pub read-u32-determined : (κs : _) (a : _) (r s : _) (ws vs : _) → read-u32-reads.Post κs a r ws → read-u32-reads.Post κs a s vs → r ≡ s
-read-u32-determined κs a r s ws vs p q = p ∙ sym q
-
-pub read-word-determined : (κs : _) (a : _) (r s : _) (ws vs : _) → read-word-reads.Post κs a r ws → read-word-reads.Post κs a s vs → r ≡ s
-read-word-determined κs a r s ws vs p q = p ∙ sym q
 
 pub copy64-determined : (κs : _) (a : _) (r s : _) (ws vs : _) → copy64-reads.Post κs a r ws → copy64-reads.Post κs a s vs → r ≡ s
 copy64-determined κs a r s ws vs p q = p ∙ sym q
@@ -152,7 +139,3 @@ write-at-determined κs a r s ws vs p q = p ∙ sym q
 
 pub zero-at-determined : (κs : _) (a : _) (r s : _) (ws vs : _) → zero-at-reads.Post κs a r ws → zero-at-reads.Post κs a s vs → now (ws .1 .0) ≡ now (vs .1 .0)
 zero-at-determined κs a r s ws vs p q = p ∙ sym q
-
--- calls: the answer, the plant's record, and every byte of memory
-pub plant-event-determined : (κs : _) (a : _) (r s : _) (ws vs : _) → plant-event-reads.Post κs a r ws → plant-event-reads.Post κs a s vs → (r ≡ s) × (now (ws .1 .1 .0) ≡ now (vs .1 .1 .0))
-plant-event-determined κs a r s ws vs p q = ((λ i. record { answer = (p .answer ∙ sym (q .answer)) i; plant = (p .plant ∙ sym (q .plant)) i }), p .memory ∙ sym (q .memory))
