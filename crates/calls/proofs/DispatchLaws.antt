@@ -1,6 +1,6 @@
 -- From what each call gives to what the rule of its function says.
 use mathlib.Core.Path.{_≡_, refl, sym, _∙_}
-use mathlib.Core.Bool.{true, false}
+use mathlib.Core.Bool.{true}
 use mathlib.Core.List.{List}
 use Prim.Native.Nat.{ℕ}
 use native.Mathlib.Omega.{arith}
@@ -16,7 +16,7 @@ use Rattle.rules.specs.declared.Refusal.{Refusal}
 use Rattle.rules.specs.declared.Refusal.the-variants.{EBADTRAP, ENOTSUPPORTED}
 use Rattle.rules.specs.declared.Versions.{Versions}
 use Rattle.rules.specs.Real.{Sight}
-use Rattle.rules.specs.Rulings.{refused, granted, outcomeOf, _or-refuse_then_, _grants_}
+use Rattle.rules.specs.Rulings.{refused, granted, outcomeOf, _or-refuse_then_}
 use Rattle.rules.specs.Sources.{intr-devino2sysino, intr}
 use Rattle.rules.specs.Calls.{functionOf, negotiatedAs, admitted, perform, call}
 use Rattle.records.specs.declared.Verdict.{Verdict}

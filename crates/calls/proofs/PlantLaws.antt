@@ -1,6 +1,5 @@
 -- The rule of a plant's own event at each return of the code.
-use mathlib.Core.Path.{_≡_, refl, sym, ap, _∙_}
-use mathlib.Core.Bool.{true, false}
+use mathlib.Core.Path.{_≡_, _∙_}
 use mathlib.Core.List.{List}
 use Prim.Native.Nat.{ℕ, _-_, _≤_, _<_}
 use native.Mathlib.Omega.{arith}
@@ -17,7 +16,7 @@ use Rattle.rules.specs.declared.QueueRecord.{QueueRecord}
 use Rattle.rules.specs.declared.Refusal.the-variants.{NoCaller, NoSource}
 use Rattle.rules.specs.Kept.{cpuAt, queueAt}
 use Rattle.rules.specs.Real.{Sight}
-use Rattle.rules.specs.Rulings.{Ruling, Outcome, outcomeOf}
+use Rattle.rules.specs.Rulings.{outcomeOf}
 use Rattle.rules.specs.Calls.{call}
 use Rattle.rules.specs.Queues.{write-head}
 use Rattle.rules.specs.Sources.{sysinoOf, raise, raiseAt}

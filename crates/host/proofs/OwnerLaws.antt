@@ -1,5 +1,5 @@
 -- The owner of an event at each return of the code.
-use mathlib.Core.Path.{_≡_, refl, sym, ap, _∙_}
+use mathlib.Core.Path.{_≡_, sym, ap, _∙_}
 use mathlib.Core.Bool.{Bool, true, false}
 use mathlib.Core.List.{List}
 use Prim.Native.Nat.{ℕ, _≤_, _<_}
@@ -14,7 +14,7 @@ use Rattle.rules.specs.declared.Tables.{Tables}
 use Rattle.rules.specs.Kept.{hollowGuest}
 use Rattle.rules.specs.Scan.{firstBelow}
 use Rattle.rules.specs.Sources.{sysinoOf}
-use Rattle.rules.specs.Host.{isFound, ownerFound, ownerOf}
+use Rattle.rules.specs.Host.{ownerFound, ownerOf}
 use Rattle.rules.proofs.Scan.{first-found, first-end}
 use Rattle.host.specs.Owners.{hasSource, raiseOwner}
 

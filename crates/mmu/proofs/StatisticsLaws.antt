@@ -1,28 +1,19 @@
 -- The rule of the statistics address at each return of the code: t is what the address was judged to be.
 use mathlib.Core.Path.{_≡_, refl, sym, _∙_}
 use mathlib.Core.Bool.{Bool, true, false}
-use Prim.Native.Nat.{ℕ, _%_, _<_}
+use Prim.Native.Nat.{ℕ, _%_}
 use lib.Dec.{eqb}
 use borrow.Author.Tests.{eqb-true}
 use Rattle.rules.specs.declared.Plant.{Plant}
 use Rattle.rules.specs.declared.Refusal.{Refusal}
-use Rattle.rules.specs.declared.Answer.{Answer}
 use Rattle.rules.specs.declared.Answer.the-variants.{One, Refused}
-use Rattle.rules.specs.Limits.{cpuLimit}
 use Rattle.rules.specs.Kept.{cpuAt, withStatistics}
-use Rattle.rules.specs.Rulings.{Ruling, granted, Outcome, outcomeOf, says}
+use Rattle.rules.specs.Rulings.{granted, says}
 use Rattle.rules.specs.Memory.{newStatistics, mmustat-conf}
 use Rattle.records.specs.declared.Verdict.{Verdict}
 use Rattle.records.specs.declared.Verdict.the-variants.{Right, Refused as Told}
 use Rattle.records.specs.Verdict.{verdictOf}
 use Rattle.records.proofs.Told.{told-refused, told-then}
-use Rattle.plants.specs.declared.change.Change.{Change}
-use Rattle.plants.specs.declared.change.CpuChange.{CpuChange}
-use Rattle.plants.specs.declared.change.Done.{Done}
-use Rattle.plants.specs.Changes.{doneBy}
-use Rattle.plants.specs.Done.{quietly}
-use Rattle.plants.proofs.ChangeLaws.{statistics-after}
-use Rattle.plants.proofs.OutcomeLaws.{changes}
 
 -- an address that is right is granted as it was asked for
 module _ (v : ℕ → ℕ → Bool) (a : ℕ) (e : verdictOf (newStatistics v a) ≡ Right) where

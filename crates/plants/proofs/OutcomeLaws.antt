@@ -1,5 +1,5 @@
 -- From what a rule says, x, to what the code gives back: the laws of the single calls need to speak of the rule alone.
-use mathlib.Core.Path.{_≡_, refl, ap, _∙_}
+use mathlib.Core.Path.{_≡_, ap}
 use mathlib.Core.List.{List}
 use Prim.Native.Nat.{ℕ, _<_}
 use lib.ListN.{replicate}

@@ -2,7 +2,7 @@
 use mathlib.Core.Path.{_≡_, refl, sym, ap, _∙_, subst}
 use mathlib.Core.Bool.{Bool, true, false}
 use mathlib.Core.List.{List, []}
-use Prim.Native.Nat.{ℕ, _+_, _<_}
+use Prim.Native.Nat.{ℕ, _+_}
 use lib.Seq.{set-getD}
 use borrow.Author.Tests.{eq-eqb, ne-eqb}
 use Rattle.rules.specs.declared.Extents.{Extents}
@@ -15,7 +15,7 @@ use Rattle.rules.specs.Queues.{nextTail, hasRoom}
 use Rattle.rules.specs.Mondo.{Sent}
 use Rattle.memory.specs.Cells.{one}
 use Rattle.memory.specs.Ready.{present}
-use Rattle.records.specs.Sound.{RingSound, RecordSound, Sound}
+use Rattle.records.specs.Sound.{RingSound, RecordSound}
 use Rattle.plants.specs.declared.rings.Put.{Put}
 use Rattle.plants.specs.Put.{left, putTo, putOne, Puts, PutIn, putIn, PutsIn, HeldSound}
 

@@ -1,9 +1,8 @@
 -- The loop that moves the tails of several rings: after i turns those of the first i cpus are moved.
 use mathlib.Core.Path.{_≡_, refl, ap, _∙_}
 use mathlib.Core.List.{List}
-use Prim.Native.Nat.{ℕ, _+_, _≤_, _<_}
-use native.Mathlib.Omega.{arith}
-use lib.ListN.{length, getD, set}
+use Prim.Native.Nat.{ℕ, _+_, _<_}
+use lib.ListN.{length, getD}
 use Rattle.rules.specs.declared.Cpu.{Cpu}
 use Rattle.rules.specs.declared.Plant.{Plant}
 use Rattle.rules.specs.declared.QueueRecord.{QueueRecord}

@@ -1,14 +1,14 @@
 -- Laws of the page index and the page mask.
-use mathlib.Core.Path.{_≡_, refl, sym, ap, _∙_}
-use mathlib.Core.Bool.{Bool, true, false, _&&_, _||_, not, or-true}
-use mathlib.Core.List.{List, [], _∷_}
+use mathlib.Core.Path.{_≡_, refl}
+use mathlib.Core.Bool.{Bool, true, false, _||_}
+use mathlib.Core.List.{[], _∷_}
 use mathlib.Core.Logic.{_⊎_, inl, inr, ⊎-elim}
 use Prim.Native.Nat.{ℕ, zero, suc, _+_, _/_, _%_, _^_, _≤_, _<_}
 use native.Mathlib.Omega.{arith}
 use lib.Dec.{eqb}
-use borrow.Author.Tests.{eq-eqb, ne-eqb}
+use borrow.Author.Tests.{ne-eqb}
 use types.Run.{OneOf}
-use Rattle.rules.specs.Tsb.{isPageIndex, insideMask, isLowest}
+use Rattle.rules.specs.Tsb.{isPageIndex}
 use Rattle.records.specs.Masks.{maskBitRight, lowestIndex}
 
 module _ (k : ℕ) where

@@ -1,9 +1,8 @@
 -- From the rule on tables, a test, to the facts.
-use mathlib.Core.Path.{_≡_, refl, sym, ap, _∙_}
-use mathlib.Core.Bool.{Bool, true, false, _&&_}
-use Prim.Native.Nat.{ℕ, zero, suc, _*_, _/_, _%_, _≤_, _<_}
+use mathlib.Core.Path.{_≡_}
+use mathlib.Core.Bool.{Bool, true, _&&_}
+use Prim.Native.Nat.{ℕ, _*_, _/_, _%_, _≤_, _<_}
 use native.Mathlib.Omega.{arith}
-use native.Mathlib.Nat.{div-add-mod'}
 use lib.Dec.{eqb, ltb, leb}
 use borrow.Author.Tests.{eqb-true, ltb-true, leb-true, lt-ltb}
 use Rattle.rules.specs.declared.QueueRecord.{QueueRecord}
@@ -14,9 +13,8 @@ use Rattle.rules.specs.declared.Plant.{Plant}
 use Rattle.rules.specs.declared.Source.{Source}
 use Rattle.rules.specs.Kept.{cpuAt, queueAt, sourceAt}
 use Rattle.rules.specs.Limits.{cpuLimit, sourceLimit, devhandles, devinos}
-use Rattle.rules.specs.Scan.{allBelow}
 use Rattle.rules.specs.Queues.{newRing}
-use Rattle.rules.specs.Rulings.{accepts, if_then_else_}
+use Rattle.rules.specs.Rulings.{accepts}
 use Rattle.rules.specs.Tables.{listRight, placeRight, ringRight, recordRight, cpuRight, cpuBlank, targetRight, sourceRight, sourceBlank, versionsRight, plantKeeps}
 use Rattle.rules.proofs.Scan.{all-at}
 use Rattle.rules.proofs.Tests.{and-left, and-right}

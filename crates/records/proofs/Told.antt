@@ -1,19 +1,13 @@
 -- What a verdict tells of the ruling behind it.
-use mathlib.Core.Path.{_≡_, refl, sym, _∙_}
-use mathlib.Core.Bool.{Bool, true, false, _&&_, false≢true}
+use mathlib.Core.Path.{_≡_, refl}
+use mathlib.Core.Bool.{Bool, true, false, false≢true}
 use Prim.Native.Nat.{ℕ, _*_, _%_, _≤_}
 use lib.Dec.{eqb}
 use native.Mathlib.Omega.{arith}
 use Rattle.rules.specs.declared.Refusal.{Refusal}
-use Rattle.rules.specs.declared.Refusal.the-variants.{EINVAL, EBADALIGN, ENORADDR, EBADPGSZ, EBADTSB}
-use Rattle.rules.specs.declared.Ring.{Ring}
-use Rattle.rules.specs.declared.Tsb.{Tsb}
-use Rattle.rules.specs.Rulings.{Ruling, refused, granted, accepts, _or-refuse_then_, if_then_else_}
+use Rattle.rules.specs.Rulings.{Ruling, refused, granted, accepts, _or-refuse_then_}
 use Rattle.rules.specs.Queues.{powerFrom, newRing}
-use Rattle.rules.specs.Tsb.{isPageIndex, insideMask, isLowest, judgedTsb}
-use Rattle.rules.specs.Memory.{newStatistics}
 use Rattle.records.specs.Verdict.{verdictOf, isRight}
-use Rattle.records.specs.declared.Verdict.{Verdict}
 use Rattle.records.specs.declared.Verdict.the-variants.{Right, Refused}
 use Rattle.records.proofs.Powers.{power-least, power-most}
 

@@ -1,5 +1,5 @@
 -- The verdict at each return of a judge, from the tests on the way: t and s are what the code's own tests came to.
-use mathlib.Core.Path.{_≡_, refl, sym, _∙_}
+use mathlib.Core.Path.{_≡_}
 use mathlib.Core.Bool.{Bool, true, false, _&&_, not}
 use Prim.Native.Nat.{ℕ, _*_, _%_}
 use lib.Dec.{eqb}

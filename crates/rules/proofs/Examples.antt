@@ -4,7 +4,7 @@ use mathlib.Core.Bool.{true}
 use mathlib.Core.List.{List, [], _∷_, _++_}
 use Prim.Native.Nat.{ℕ, _-_, _^_}
 use lib.ListN.{replicate}
-use Rattle.rules.specs.Types.{Extent, Source, Target, Guest, Tables, Event, Answer, Done, Loaded}
+use Rattle.rules.specs.Types.{Target, Guest, Tables, Event, Done}
 use Rattle.rules.specs.Kept.{blankExtent, blankCpu, blankSource, blankGuest, noVersions}
 use Rattle.rules.specs.Statuses.{numbers}
 use Rattle.rules.specs.Image.{load}

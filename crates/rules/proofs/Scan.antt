@@ -1,6 +1,6 @@
 -- Laws of the scans, for any loop that counts up: i is the loop's index, n its end, and t what the code's test at i came to.
-use mathlib.Core.Bool.{Bool, true, false, _||_, _&&_, not, or-true, and-false, true≢false, false≢true}
-use mathlib.Core.Path.{_≡_, refl, sym, ap, _∙_}
+use mathlib.Core.Bool.{Bool, true, false, not, or-true, and-false, true≢false, false≢true}
+use mathlib.Core.Path.{_≡_, refl, sym, _∙_}
 use mathlib.Core.Logic.{⊎-elim}
 use Prim.Native.Nat.{ℕ, zero, suc, _+_, _<_, _≤_}
 use native.Mathlib.Nat.{eq-or-lt-of-le}

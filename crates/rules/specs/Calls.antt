@@ -1,6 +1,6 @@
 -- "Which calls exist": the function number picks the group before any argument is read.
 use Prim.Native.Nat.{ℕ}
-use mathlib.Core.Bool.{Bool, _&&_}
+use mathlib.Core.Bool.{_&&_}
 use lib.Dec.{leb, eqb}
 use Rattle.rules.specs.Types.{Function, Versions, Plant, Call, EBADTRAP, ENOTSUPPORTED}
 use Rattle.rules.specs.Real.{Sight}

@@ -1,11 +1,11 @@
 -- "Entry to every event": which guest an event belongs to, what is tried before anything, and what the host's tables and
 -- memory are afterwards.
-use mathlib.Core.Bool.{Bool, true, false, _&&_}
+use mathlib.Core.Bool.{Bool, true, false}
 use mathlib.Core.List.{List}
 use Prim.Native.Nat.{ℕ, _+_, _*_}
 use lib.Dec.{leb, ltb}
 use lib.ListN.{length}
-use Rattle.rules.specs.Types.{Found, Plant, Tables, Call, HeadWrite, Device, LoadAt, StoreAt, Event, Owner, Answer, Refused, Refusal, BadTables, ShortMemory, NoCaller, NoSource}
+use Rattle.rules.specs.Types.{Found, Plant, Tables, Call, Event, Owner, Answer, Refused, BadTables, ShortMemory, NoCaller, NoSource}
 use Rattle.rules.specs.Limits.{guestLimit, extentLimit, pageSize}
 use Rattle.rules.specs.Scan.{allBelow, firstBelow}
 use Rattle.rules.specs.Kept.{plantAt, extentsOf, withPlant}
@@ -16,7 +16,7 @@ use Rattle.rules.specs.Calls.{call}
 use Rattle.rules.specs.Queues.{write-head}
 use Rattle.rules.specs.Memory.{load-word, store-word}
 use Rattle.rules.specs.Sources.{sysinoOf, raise}
-use Rattle.rules.specs.Rulings.{Ruling, refused, granted, Outcome, outcomeOf, _or-refuse_then_, _grants_}
+use Rattle.rules.specs.Rulings.{Ruling, refused, granted, Outcome, outcomeOf, _or-refuse_then_}
 
 -- what a plant does with an event of its own, as if it were alone: "no such cpuid 103", then the event's rule
 unfoldable pub plantRule : Sight → Plant → Event → Ruling Outcome

@@ -1,15 +1,15 @@
 -- "The partition image": from bytes to tables. Nothing here speaks of memory.
-use mathlib.Core.Bool.{Bool, true, false, _&&_, _||_, not}
+use mathlib.Core.Bool.{Bool, _&&_, _||_, not}
 use Prim.Native.Nat.{ℕ, zero, suc, _+_, _-_, _*_, _/_, _%_, min, max}
-use mathlib.Core.List.{List, []}
-use lib.ListN.{length, getD, set, replicate}
+use mathlib.Core.List.{List}
+use lib.ListN.{length, set, replicate}
 use lib.Dec.{leb, ltb, eqb}
-use Rattle.rules.specs.Types.{Extent, Extents, Target, Source, Plant, Guest, Tables, Refusal, ImageShort, ImageBad, Done, Refused, Loaded}
+use Rattle.rules.specs.Types.{Extent, Extents, Target, Source, Guest, Tables, ImageShort, ImageBad, Done, Refused, Loaded}
 use Rattle.rules.specs.Limits.{guestLimit, cpuLimit, extentLimit, sourceLimit, realPages, hostPages}
 use Rattle.rules.specs.Scan.{someBelow, allBelow}
 use Rattle.rules.specs.Kept.{blankExtent, blankCpu, blankSource, blankGuest, noVersions, noGuests, guestAt, plantAt, extentAt, sourceAt}
 use Rattle.rules.specs.Bits.{fieldAt, reaches}
-use Rattle.rules.specs.Rulings.{Ruling, refused, granted, _or-refuse_then_, _grants_, if_then_else_}
+use Rattle.rules.specs.Rulings.{Ruling, refused, granted, _or-refuse_then_, _grants_}
 
 -- "missing bits 110 at once", and "a header or count outside its limits answers 111 at once": n bits, from lo to hi
 unfoldable pub countAt : List ℕ → ℕ → ℕ → ℕ → ℕ → Ruling ℕ

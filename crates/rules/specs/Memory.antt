@@ -1,6 +1,6 @@
 -- "TSB lists and memory", its second half: scrub, sync, store and load (000, section 9), and the statistics address (003).
 use mathlib.Core.Bool.{Bool, _&&_, not}
-use mathlib.Core.List.{List, [], _∷_}
+use mathlib.Core.List.{[], _∷_}
 use Prim.Native.Nat.{ℕ, _%_, min}
 use lib.Dec.{eqb}
 use lib.ListN.{replicate}

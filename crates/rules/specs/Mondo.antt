@@ -3,7 +3,7 @@ use mathlib.Core.Bool.{Bool, true, false, _&&_, not}
 use mathlib.Core.List.{List, [], _∷_, _++_}
 use Prim.Native.Nat.{ℕ, zero, suc, _+_, _*_, _%_}
 use lib.Dec.{leb, ltb, eqb}
-use Rattle.rules.specs.Types.{Ring, QueueRecord, Plant, Answer, Done, Refused, EINVAL, EBADALIGN, ENORADDR, ENOCPU, EWOULDBLOCK}
+use Rattle.rules.specs.Types.{QueueRecord, Plant, Done, Refused, EINVAL, EBADALIGN, ENORADDR, ENOCPU, EWOULDBLOCK}
 use Rattle.rules.specs.Scan.{someBelow, allBelow}
 use Rattle.rules.specs.Kept.{cpuAt, queueAt, withQueue, withTail}
 use Rattle.rules.specs.Real.{Sight, Write, numberOf, bytesFrom}

@@ -1,7 +1,7 @@
 -- "A real address and a host offset": what a guest sees of memory through its extents. `valid` and `located` are the only
 -- places that say where a real address lies; every other rule speaks of a Sight.
 use Prim.Native.Nat.{ℕ, zero, suc, _+_, _-_, _*_, _/_, _%_, _^_}
-use mathlib.Core.Bool.{Bool, true, false, _&&_, _||_, cond}
+use mathlib.Core.Bool.{Bool, false, _&&_, _||_, cond}
 use mathlib.Core.List.{List, [], _∷_}
 use lib.Dec.{leb}
 use lib.ListN.{getD, set}

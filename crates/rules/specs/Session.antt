@@ -1,10 +1,9 @@
 -- "The session program", line by line and for a whole input.
-use mathlib.Core.Bool.{Bool, true, false}
 use mathlib.Core.List.{List, [], _∷_, _++_}
 use Prim.Native.Nat.{ℕ}
 use lib.Dec.{eqb}
 use lib.ListN.{replicate, take}
-use Rattle.rules.specs.Types.{Tables, Loaded, Answer}
+use Rattle.rules.specs.Types.{Tables, Loaded}
 use Rattle.rules.specs.Kept.{noGuests}
 use Rattle.rules.specs.Statuses.{numbers}
 use Rattle.rules.specs.Image.{load}

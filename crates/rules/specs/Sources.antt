@@ -1,10 +1,10 @@
 -- "Interrupt sources": 0xa0 to 0xae (000, section 10; 002, section 3) and raise.
-use mathlib.Core.Bool.{Bool, true, false, _&&_, _||_, not}
+use mathlib.Core.Bool.{_&&_, _||_, not}
 use mathlib.Core.List.{List, [], _∷_, _++_}
 use Prim.Native.Nat.{ℕ, _+_}
 use lib.Dec.{leb, ltb, eqb}
 use lib.ListN.{replicate}
-use Rattle.rules.specs.Types.{Found, Ring, QueueRecord, Target, Source, Plant, One, Refusal, EINVAL, ENOCPU, ENOTSUPPORTED, EBADTRAP, NoSource}
+use Rattle.rules.specs.Types.{Found, Ring, QueueRecord, Target, Plant, One, Refusal, EINVAL, ENOCPU, ENOTSUPPORTED, EBADTRAP, NoSource}
 use Rattle.rules.specs.Scan.{firstBelow}
 use Rattle.rules.specs.Kept.{cpuAt, queueAt, sourceAt, withQueue, withTail, withSource, withEnabled, withState, withTarget, withCookie}
 use Rattle.rules.specs.Real.{wordBytes}

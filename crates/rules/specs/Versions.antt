@@ -1,5 +1,5 @@
 -- "Which calls exist", its second half: set version and get version.
-use mathlib.Core.Bool.{Bool, true, false, _&&_, _||_}
+use mathlib.Core.Bool.{Bool, true, false, _&&_}
 use mathlib.Core.List.{map}
 use Prim.Native.Nat.{ℕ}
 use lib.Dec.{leb, ltb, eqb}

@@ -1,7 +1,7 @@
 -- The rules of the interrupt sources at each return of the code, from the tests on the way.
-use mathlib.Core.Path.{_≡_, refl, sym, _∙_}
+use mathlib.Core.Path.{_≡_, sym, _∙_}
 use mathlib.Core.Bool.{Bool, true, false, _&&_, not}
-use Prim.Native.Nat.{ℕ, zero, suc, _≤_, _<_}
+use Prim.Native.Nat.{ℕ, _≤_, _<_}
 use native.Mathlib.Omega.{arith}
 use lib.Dec.{eqb}
 use borrow.Author.Tests.{le-leb, lt-leb, lt-ltb, le-ltb, eq-eqb, ne-eqb, not-true, not-false}
@@ -12,8 +12,6 @@ use Rattle.rules.specs.declared.Target.{Target}
 use Rattle.rules.specs.declared.Refusal.the-variants.{EINVAL, ENOCPU, ENOTSUPPORTED, EBADTRAP}
 use Rattle.rules.specs.declared.Answer.{Answer}
 use Rattle.rules.specs.declared.Answer.the-variants.{One}
-use Rattle.rules.specs.Limits.{sourceLimit}
-use Rattle.rules.specs.Scan.{firstBelow, foundOr}
 use Rattle.rules.specs.Image.{named}
 use Rattle.rules.specs.Kept.{sourceAt, withSource, withEnabled, withState, withTarget, withCookie}
 use Rattle.rules.specs.Rulings.{Ruling, refused, Outcome, outcomeOf, says, done, if_then_else_}
@@ -23,8 +21,7 @@ use Rattle.plants.specs.declared.change.Change.{Change}
 use Rattle.plants.specs.declared.change.Done.{Done}
 use Rattle.plants.specs.Changes.{doneBy}
 use Rattle.plants.specs.Done.{quietly, saying}
-use Rattle.plants.proofs.ChangeLaws.{source-after}
-use Rattle.plants.proofs.OutcomeLaws.{tells, changes}
+use Rattle.plants.proofs.OutcomeLaws.{tells}
 
 -- the name of a source, in two tests
 module _ (s : Source) (devhandle devino : ℕ) where

@@ -1,13 +1,11 @@
 -- The link, once, from the check of 101 and 102 to the facts that the calls need of a guest.
 use mathlib.Core.Path.{_≡_}
-use mathlib.Core.Bool.{Bool, true, false, _&&_, not}
+use mathlib.Core.Bool.{Bool, true, false, not}
 use Prim.Native.Nat.{ℕ, _≤_, _<_}
 use native.Mathlib.Omega.{arith}
 use lib.Dec.{leb}
-use lib.ListN.{take}
 use borrow.Author.Tests.{not-true}
 use Rattle.rules.specs.declared.Extents.{Extents}
-use Rattle.rules.specs.declared.Guest.{Guest}
 use Rattle.rules.specs.declared.Tables.{Tables}
 use Rattle.rules.specs.Limits.{guestLimit, extentLimit}
 use Rattle.rules.specs.Kept.{guestAt, plantAt, extentAt, extentsOf}
@@ -16,7 +14,6 @@ use Rattle.rules.specs.Image.{extentRight, ascend, pagesShared, sourceTwice}
 use Rattle.rules.specs.Tables.{listRight, extentBlank, guestBlank, extentsKeep, plantKeeps, guestKeeps, keepRules}
 use Rattle.rules.specs.Host.{longEnough}
 use Rattle.rules.proofs.Tests.{and-left, and-right}
-use Rattle.memory.specs.Ready.{present}
 use Rattle.memory.proofs.Checked.{guest-ready}
 use Rattle.records.specs.Sound.{Sound}
 use Rattle.records.proofs.SoundLaws.{list-length, list-there, plant-cpus, plant-sources, plant-rings, plant-targets}

@@ -1,5 +1,5 @@
 -- `records::judge_ring` meets its contract: each return is the rule's case, by the tests on the way.
-use mathlib.Core.Path.{_≡_, sym, _∙_}
+use mathlib.Core.Path.{sym, _∙_}
 use native.Mathlib.Omega.{arith}
 use borrow.Author.Needs.{needs}
 use borrow.Author.Tests.{not-false}

@@ -1,5 +1,5 @@
 -- `plants::parts::all_disabled` meets its contract: after i turns of the loop the first i sources are disabled.
-use mathlib.Core.Path.{_≡_, _∙_}
+use mathlib.Core.Path.{_≡_}
 use Prim.Native.Nat.{_≤_, _-_}
 use native.Mathlib.Omega.{arith}
 use Rattle.rules.specs.Versions.{disabled}

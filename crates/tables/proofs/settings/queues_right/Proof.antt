@@ -4,7 +4,6 @@ use borrow.Author.Needs.{needs}
 use mathlib.Core.Bool.{true, _&&_}
 use mathlib.Core.Path.{_≡_}
 use Prim.Native.Nat.{_-_, _≤_}
-use lib.Dec.{ltb}
 use lib.ListN.{getD}
 use Rattle.rules.specs.Limits.{queueLimit}
 use Rattle.rules.specs.Scan.{allBelow}
