@@ -1,3 +1,4 @@
 pub mod ListedLaws
 pub mod MondoLaws
+pub mod RingTails
 pub mod SendLaws

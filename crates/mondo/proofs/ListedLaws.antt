@@ -16,7 +16,7 @@ use Rattle.rules.specs.declared.Refusal.{Refusal}
 use Rattle.rules.specs.declared.Refusal.the-variants.{EWOULDBLOCK}
 use Rattle.rules.specs.declared.Answer.the-variants.{Done, Refused}
 use Rattle.rules.specs.Scan.{someBelow, allBelow}
-use Rattle.rules.specs.Real.{valid, byteAt, sightOf, bytesFrom, apply}
+use Rattle.rules.specs.Real.{valid, byteAt, sightOf, bytesFrom}
 use Rattle.rules.specs.Rulings.{Ruling, Outcome, done}
 use Rattle.rules.specs.Mondo.{entryAt, entries, sendAll, cpu-mondo-send}
 use Rattle.rules.proofs.Scan.{all-at}
@@ -26,13 +26,15 @@ use Rattle.records.specs.declared.Verdict.{Verdict}
 use Rattle.records.specs.declared.Verdict.the-variants.{Right, Refused as Told}
 use Rattle.records.specs.Verdict.{verdictOf}
 use Rattle.records.proofs.Told.{told-then}
-use Rattle.plants.specs.declared.Done.{Done as Gave}
-use Rattle.plants.specs.declared.rings.Sent.{Sent as Came}
+use Rattle.plants.specs.declared.change.Change.{Change}
+use Rattle.plants.specs.declared.change.Done.{Done as Gave}
+use Rattle.plants.specs.Changes.{withTails, doneBy, changedBy, plantAfter}
 use Rattle.plants.specs.Follows.{Follows}
 use Rattle.plants.specs.Judged.{judged}
 use Rattle.plants.specs.Put.{Puts}
-use Rattle.mondo.specs.Steps.{mondoRanges, mondoCpus, mondoSent}
+use Rattle.mondo.specs.Steps.{mondoRanges, mondoCpus, mondoSent, sentBy}
 use Rattle.plants.proofs.JudgedLaws.{judged-refused, judged-right, judged-told}
+use Rattle.plants.proofs.OutcomeLaws.{quiet-refused}
 
 -- tests that say the same of each number below n
 some-same : (p q : ℕ → Bool) (n : ℕ) → ((i : ℕ) → i < n → p i ≡ q i) → someBelow n p ≡ someBelow n q
@@ -99,21 +101,22 @@ module _ (extents : Extents) (plant : Plant) (m cs : List ℕ) (cpu count list a
   abbrev asked : Ruling Outcome → Ruling Outcome
   asked = mondoCpus (λ i. getD cs i 0) count cpu (plant .cpus)
 
-  pub listed-refused : (r : Refusal) → t ≡ Told r → Follows extents plant (mondoSent (sightOf (present extents) m) plant cpu count list at) m (record { answer = Refused r; plant = plant }) m
-  unfolding mondoSent apply
-  listed-refused r h = rw (cpus-same _ list cs count e, judged-refused asked t f r h) (record { answer = refl; plant = refl; memory = refl })
+  pub listed-refused : (r : Refusal) (d : Gave) → t ≡ Told r → d ≡ doneBy (Refused r) Change.Nothing → Follows extents plant (mondoSent (sightOf (present extents) m) plant cpu count list at) m d m
+  unfolding mondoSent
+  listed-refused r d h g = quiet-refused extents plant _ m d r g (cpus-same _ list cs count e _ _ _ ∙ judged-refused asked t f r h _)
 
-  module _ (h : t ≡ Right) (packet : List ℕ) (p : packet ≡ bytesFrom (byteAt (present extents) m) at 64) (s : Came) (m′ : List ℕ) (g : Puts extents (sendAll plant (take count cs) packet list) m s m′) where
-    pub listed-sent : s .all ≡ true → Follows extents plant (mondoSent (sightOf (present extents) m) plant cpu count list at) m (record { answer = Done; plant = s .plant }) m′
-    unfolding mondoSent
-    listed-sent k =
-        rw (cpus-same _ list cs count e, judged-right asked t f h, ← p, ← e)
+  module _ (h : t ≡ Right) (packet : List ℕ) (p : packet ≡ bytesFrom (byteAt (present extents) m) at 64) (tails : List ℕ) (all : Bool) (m′ : List ℕ)
+      (g : Puts extents (sendAll plant (take count cs) packet list) m (record { plant = withTails plant tails; all = all }) m′) (d : Gave) where
+    pub listed-sent : all ≡ true → d ≡ sentBy Done tails → Follows extents plant (mondoSent (sightOf (present extents) m) plant cpu count list at) m d m′
+    unfolding mondoSent sentBy plantAfter changedBy
+    listed-sent k n =
+        rw (n, cpus-same _ list cs count e, judged-right asked t f h, ← p, ← e)
         (record { answer = rw (← g .all, k); plant = g .plant; memory = g .memory })
 
-    pub listed-left : s .all ≡ false → Follows extents plant (mondoSent (sightOf (present extents) m) plant cpu count list at) m (record { answer = Refused EWOULDBLOCK; plant = s .plant }) m′
-    unfolding mondoSent
-    listed-left k =
-        rw (cpus-same _ list cs count e, judged-right asked t f h, ← p, ← e)
+    pub listed-left : all ≡ false → d ≡ sentBy (Refused EWOULDBLOCK) tails → Follows extents plant (mondoSent (sightOf (present extents) m) plant cpu count list at) m d m′
+    unfolding mondoSent sentBy plantAfter changedBy
+    listed-left k n =
+        rw (n, cpus-same _ list cs count e, judged-right asked t f h, ← p, ← e)
         (record { answer = rw (← g .all, k); plant = g .plant; memory = g .memory })
 
 -- what is asked before the list is read
@@ -147,9 +150,8 @@ module _ (extents : Extents) (plant : Plant) (m : List ℕ) (cpu count list at :
   unfolding cpu-mondo-send mondoRanges mondoSent mondoCpus
   send-is = refl
 
-  pub send-refused : (r : Refusal) → t ≡ Told r → Follows extents plant (cpu-mondo-send (sightOf (present extents) m) plant cpu count list at) m (record { answer = Refused r; plant = plant }) m
-  unfolding apply
-  send-refused r h = rw (send-is, judged-refused (mondoRanges (valid (present extents)) count list at) t f r h) (record { answer = refl; plant = refl; memory = refl })
+  pub send-refused : (r : Refusal) (d : Gave) → t ≡ Told r → d ≡ doneBy (Refused r) Change.Nothing → Follows extents plant (cpu-mondo-send (sightOf (present extents) m) plant cpu count list at) m d m
+  send-refused r d h g = quiet-refused extents plant _ m d r g (send-is ∙ judged-refused (mondoRanges (valid (present extents)) count list at) t f r h _)
 
   pub send-done : (d : Gave) (m′ : List ℕ) → t ≡ Right → Follows extents plant (mondoSent (sightOf (present extents) m) plant cpu count list at) m d m′
       → Follows extents plant (cpu-mondo-send (sightOf (present extents) m) plant cpu count list at) m d m′

@@ -19,8 +19,7 @@ use Rattle.rules.specs.Mondo.{Sent, sendTo, sendOne, sendAll}
 use Rattle.memory.specs.Ready.{present}
 use Rattle.memory.proofs.Writes.{apply-append}
 use Rattle.records.specs.Sound.{Sound}
-use Rattle.plants.specs.declared.rings.Sent.{Sent as Came}
-use Rattle.plants.specs.Put.{Puts}
+use Rattle.plants.specs.Put.{Told, Puts}
 use Rattle.plants.proofs.SoundAfter.{queue-replaced, tail-moved}
 
 -- what one step keeps
@@ -67,7 +66,7 @@ module _ (extents : Extents) (plant₀ : Plant) (m₀ cs packet : List ℕ) (lis
       let e : list + 2 * 0 ≡ list = omega arith in
       record { kept = record { sound = s; same = refl }; plant-is = rw e refl; all-is = rw e refl; memory-is = rw e refl }
 
-  pub sending-more : (plant : Plant) (m : List ℕ) (all : Bool) (i : ℕ) (r : Came) (m′ : List ℕ) → Sending plant m all i → i < count → count ≤ length cs → getD cs i 0 < plant₀ .cpus
+  pub sending-more : (plant : Plant) (m : List ℕ) (all : Bool) (i : ℕ) (r : Told) (m′ : List ℕ) → Sending plant m all i → i < count → count ≤ length cs → getD cs i 0 < plant₀ .cpus
       → Puts extents (sendOne plant (getD cs i 0) packet (list + 2 * i)) m r m′ → length m′ ≡ length m → Sending (r .plant) m′ (all && r .all) (i + 1)
   unfolding sendAll
   sending-more plant m all i r m′ s h l a f n =

@@ -3,6 +3,7 @@ use mathlib.Core.Bool.{Bool, _&&_, not}
 use mathlib.Core.List.{List, [], _∷_, _++_}
 use Prim.Native.Nat.{ℕ, _*_, _%_}
 use lib.Dec.{leb, ltb, eqb}
+use Rattle.rules.specs.declared.Answer.{Answer}
 use Rattle.rules.specs.declared.Plant.{Plant}
 use Rattle.rules.specs.declared.QueueRecord.{QueueRecord}
 use Rattle.rules.specs.declared.Refusal.the-variants.{EINVAL, EBADALIGN, ENORADDR, ENOCPU}
@@ -11,6 +12,9 @@ use Rattle.rules.specs.Real.{Sight, bytesFrom}
 use Rattle.rules.specs.Rulings.{Ruling, granted, Outcome, _or-refuse_then_, if_then_else_}
 use Rattle.rules.specs.Mondo.{entryAt, entries, sendAll, sentAs}
 use Rattle.memory.specs.Cells.{one}
+use Rattle.plants.specs.declared.change.Change.{Change}
+use Rattle.plants.specs.declared.change.Done.{Done}
+use Rattle.plants.specs.Changes.{doneBy}
 use Rattle.plants.specs.Put.{PutIn, putIn}
 
 -- what is asked before the list is read
@@ -39,3 +43,12 @@ unfoldable pub sendIn : QueueRecord → List ℕ → ℕ → PutIn
 sendIn held packet mark =
     let p : PutIn = putIn held packet in
     record { held = p .held; room = p .room; writes = p .writes ++ (if p .room then one mark (0xff ∷ 0xff ∷ []) else []) }
+
+-- where the tail of a ring stands; a queue without a ring has none
+unfoldable pub tailOf : QueueRecord → ℕ
+tailOf QueueRecord.Unset = 0
+tailOf (QueueRecord.Set ring) = ring .tail
+
+-- an answer, with the tails of the 0x3c rings there
+unfoldable pub sentBy : Answer → List ℕ → Done
+sentBy answer tails = record { answer = answer; change = Change.Tails; tsbs = doneBy answer Change.Tails .tsbs; tails = tails }

@@ -1,13 +1,16 @@
 // 0x42: a mondo to each cpu of a list.
+use plants::Change;
 use plants::Done;
 use plants::Put;
-use plants::Sent;
+use plants::at_tail;
+use plants::done_by;
 use plants::put_entry;
+use plants::told;
 use records::Verdict;
 use rules::Answer;
+use rules::CPUS;
 use rules::Extents;
 use rules::Plant;
-use rules::Queue;
 use rules::QueueRecord;
 use rules::Real;
 use rules::Refusal;
@@ -16,20 +19,27 @@ ghost use mathlib.Core.Bool.{true};
 ghost use Prim.Native.Nat.{ℕ, _*_, _<_, _≤_};
 ghost use lib.Dec.{eqb, ltb};
 ghost use lib.ListN.{length, getD, take};
-ghost use Rattle.rules.specs.Limits.{extentLimit};
+ghost use Rattle.rules.specs.Limits.{cpuLimit, extentLimit};
 ghost use Rattle.rules.specs.Scan.{someBelow, allBelow};
 ghost use Rattle.rules.specs.Real.{valid, byteAt, sightOf};
 ghost use Rattle.rules.specs.Rulings.{Ruling, Outcome};
 ghost use Rattle.rules.specs.Mondo.{entries, sendAll, cpu-mondo-send};
 ghost use Rattle.memory.specs.Ready.{present, Ready};
 ghost use Rattle.records.specs.Sound.{Sound};
+ghost use Rattle.plants.specs.Changes.{withTails};
 ghost use Rattle.plants.specs.Follows.{Follows};
 ghost use Rattle.plants.specs.Judged.{judged};
 ghost use Rattle.plants.specs.Put.{Puts, PutsIn, HeldSound};
-ghost use Rattle.mondo.specs.Steps.{mondoRanges, mondoCpus, mondoSent, sendIn};
+ghost use Rattle.mondo.specs.Steps.{mondoRanges, mondoCpus, mondoSent, sendIn, tailOf, sentBy};
 
 // The longest list.
 const MONDOS: usize = 64;
+
+// What sending has come to: the tails of the 0x3c rings, and whether nothing was left for want of room.
+struct Sent {
+    tails: [u16; CPUS],
+    all: bool,
+}
 
 // What is asked before the list is read.
 fn judge_ranges(extents: Extents, count: u64, list: u64, data: u64) -> Verdict
@@ -154,7 +164,36 @@ fn send_one(
     put
 }
 
-// The packet to each cpu of the list, in its order.
+// Where the tail of a ring stands. A queue without a ring has none, and 0 is not looked at there.
+fn tail_of(held: QueueRecord) -> u16
+    ensures { λ r. ⌜ r ≡ tailOf held ⌝ }
+{
+    match held {
+        QueueRecord::Unset => 0,
+        QueueRecord::Set(ring) => ring.tail,
+    }
+}
+
+// The tails of the 0x3c rings as they are.
+fn tails_of(plant: Plant) -> [u16; CPUS]
+    requires { ⌜ plant .cpus ≤ cpuLimit ⌝ }
+    ensures { λ r. ⌜ withTails plant r ≡ plant ⌝ }
+{
+    let n = plant.cpus as usize;
+    let mut tails = [0u16; CPUS];
+    let mut i = 0;
+    while i < n {
+        let c = plant.cpu[i];
+        let queue = c.queues[0];
+        let held = queue.held;
+        tails[i] = tail_of(held);
+        i += 1;
+    }
+    tails
+}
+
+// The packet to each cpu of the list, in its order. A cpu may stand there twice, so each ring is taken with its tail as it is
+// by then.
 fn send_all(
     extents: Extents,
     plant: Plant,
@@ -168,25 +207,34 @@ fn send_all(
     requires { ⌜ (count ≤ length (now cpus)) × (count ≤ 64) ⌝ }
     requires { ⌜ ((i : ℕ) → i < count → getD (now cpus) i 0 < plant .cpus) ⌝ }
     requires { ⌜ valid (present extents) list (2 * count) ≡ true ⌝ }
-    ensures { λ r. ⌜ Puts extents (sendAll plant (take count (now (cpus .entry))) (now (packet .entry)) list) (now (mem .entry)) r (now (mem .exit)) ⌝ }
+    ensures { λ r. ⌜ Puts extents (sendAll plant (take count (now (cpus .entry))) (now (packet .entry)) list) (now (mem .entry)) (record { plant = withTails plant (r .tails); all = r .all }) (now (mem .exit)) ⌝ }
 {
-    let mut next = plant;
+    let mut tails = tails_of(plant);
     let mut all = true;
     let mut i = 0;
     while i < count {
         let cpu = cpus[i] as usize;
         let mark = list + 2 * (i as u64);
-        let mut c = next.cpu[cpu];
+        let c = plant.cpu[cpu];
         let queue = c.queues[0];
         let held = queue.held;
-        let put = send_one(extents, held, mem, packet, mark);
+        let now = at_tail(held, tails[cpu]);
+        let put = send_one(extents, now, mem, packet, mark);
         let after = put.held;
-        c.queues[0] = Queue { held: after };
-        next.cpu[cpu] = c;
+        tails[cpu] = tail_of(after);
         all = all & put.room;
         i += 1;
     }
-    Sent { plant: next, all }
+    Sent { tails, all }
+}
+
+// An answer, with the tails of the 0x3c rings there.
+fn told_tails(answer: Answer, tails: [u16; CPUS]) -> Done
+    ensures { λ r. ⌜ r ≡ sentBy answer tails ⌝ }
+{
+    let mut done = done_by(answer, Change::Tails);
+    done.tails = tails;
+    done
 }
 
 // List and data are read once, before any write.
@@ -208,24 +256,15 @@ fn send_listed(
     let cpus = read_list(extents, mem, list, count);
     let verdict = judge_cpus(&cpus, count, cpu, plant.cpus);
     match verdict {
-        Verdict::Refused(r) => Done {
-            answer: Answer::Refused(r),
-            plant,
-        },
+        Verdict::Refused(r) => told(Answer::Refused(r)),
         Verdict::Right => {
             let packet = memory::bytes64(extents, mem, Real(data));
-            let sent = send_all(extents, plant, mem, &cpus, count, &packet, list);
-            let next = sent.plant;
-            if sent.all {
-                return Done {
-                    answer: Answer::Done,
-                    plant: next,
-                };
+            let came = send_all(extents, plant, mem, &cpus, count, &packet, list);
+            let tails = came.tails;
+            if came.all {
+                return told_tails(Answer::Done, tails);
             }
-            Done {
-                answer: Answer::Refused(Refusal::EWOULDBLOCK),
-                plant: next,
-            }
+            told_tails(Answer::Refused(Refusal::EWOULDBLOCK), tails)
         }
     }
 }
@@ -245,10 +284,7 @@ pub fn cpu_mondo_send(
 {
     let verdict = judge_ranges(extents, count, list, data);
     match verdict {
-        Verdict::Refused(r) => Done {
-            answer: Answer::Refused(r),
-            plant,
-        },
+        Verdict::Refused(r) => told(Answer::Refused(r)),
         Verdict::Right => send_listed(extents, plant, mem, cpu, count as usize, list, data),
     }
 }

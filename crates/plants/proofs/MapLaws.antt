@@ -1,5 +1,5 @@
 -- A loop that makes a list anew in place: after i turns its first i elements are made.
-use mathlib.Core.Path.{_≡_, refl, ap, _∙_}
+use mathlib.Core.Path.{_≡_, refl, sym, ap, _∙_}
 use mathlib.Core.List.{List, [], _∷_, map}
 use Prim.Native.Nat.{ℕ, zero, suc, _+_, _≤_, _<_}
 use native.Mathlib.Omega.{arith}
@@ -30,6 +30,35 @@ module _ {A : Type 0} where
   map-all f (suc n) [] h = refl
   map-all f zero (x ∷ l) h = absurd (omega arith)
   map-all f (suc n) (x ∷ l) h = ap (λ (t : List A). f x ∷ t) (map-all f n l (omega arith))
+
+  -- an element that is made anew stands where it stood
+  pub map-read : (f : ℕ → A → A) (d : A) (n c : ℕ) (l : List A) → ((i : ℕ) → f i d ≡ d) → c < n → getD (mapFirst f n l) c d ≡ f c (getD l c d)
+  unfolding mapFirst
+  map-read f d zero c l z h = absurd (omega arith)
+  map-read f d (suc n) c [] z h = sym (z c)
+  map-read f d (suc n) zero (x ∷ l) z h = refl
+  map-read f d (suc n) (suc c) (x ∷ l) z h = map-read (λ i. f (suc i)) d n c l (λ i. z (suc i)) (omega arith)
+
+  map-like : (f g : ℕ → A → A) (n : ℕ) (l : List A) → ((i : ℕ) (x : A) → g i x ≡ f i x) → mapFirst g n l ≡ mapFirst f n l
+  unfolding mapFirst
+  map-like f g zero l s = refl
+  map-like f g (suc n) [] s = refl
+  map-like f g (suc n) (x ∷ l) s = rw (s 0 x, map-like (λ i. f (suc i)) (λ i. g (suc i)) n l (λ i. s (suc i)))
+
+  -- one element made otherwise is a store
+  pub map-store : (f g : ℕ → A → A) (d : A) (n c : ℕ) (l : List A) → ((i : ℕ) (x : A) → (i ≡ c → ⊥) → g i x ≡ f i x) → c < n → mapFirst g n l ≡ set (mapFirst f n l) c (g c (getD l c d))
+  unfolding mapFirst
+  map-store f g d zero c l s h = absurd (omega arith)
+  map-store f g d (suc n) c [] s h = refl
+  map-store f g d (suc n) zero (x ∷ l) s h = ap (λ (t : List A). g 0 x ∷ t) (map-like (λ i. f (suc i)) (λ i. g (suc i)) n l (λ i y. s (suc i) y (λ e. omega (arith, e))))
+  map-store f g d (suc n) (suc c) (x ∷ l) s h = rw (s 0 x (λ e. omega (arith, e)), map-store (λ i. f (suc i)) (λ i. g (suc i)) d n c l (λ i y k. s (suc i) y (λ e. k (omega (arith, e)))) (omega arith))
+
+  -- nothing is changed if each is made as it was
+  pub map-same : (f : ℕ → A → A) (d : A) (n : ℕ) (l : List A) → ((i : ℕ) → i < n → f i (getD l i d) ≡ getD l i d) → mapFirst f n l ≡ l
+  unfolding mapFirst
+  map-same f d zero l s = refl
+  map-same f d (suc n) [] s = refl
+  map-same f d (suc n) (x ∷ l) s = rw (s 0 (omega arith), map-same (λ i. f (suc i)) d n l (λ i h. s (suc i) (omega (arith, h))))
 
 -- s is the list after all turns
 pub disabled-all : (l s : List Source) (i : ℕ) → s ≡ mapFirst (λ _. disabled) i l → length l ≤ i → s ≡ map disabled l

@@ -10,6 +10,9 @@ judge-ranges-requires c κs = search needs
 enum-known-verdict : tie.Need-enum-known-verdict
 enum-known-verdict c = search needs
 
+told-requires : tie.Need-told-requires
+told-requires c κs = search needs
+
 enum-told : tie.Need-enum-told
 enum-told c = search needs
 
@@ -36,6 +39,7 @@ cpu-mondo-send-spec =
     (tie.spec
     judge-ranges-requires
     enum-known-verdict
+    told-requires
     enum-told
     send-listed-requires
     returns

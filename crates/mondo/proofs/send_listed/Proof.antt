@@ -14,6 +14,9 @@ judge-cpus-requires c κs = search needs
 enum-known-verdict : tie.Need-enum-known-verdict
 enum-known-verdict c = search needs
 
+told-requires : tie.Need-told-requires
+told-requires c κs = search needs
+
 enum-told : tie.Need-enum-told
 enum-told c = search needs
 
@@ -28,11 +31,17 @@ send-all-requires c κs =
     let below = entry-below (j .before .before .read-list .result) (s .args .count) (s .args .cpu) (s .args .plant) _ (j .judge-cpus .ensures) (t .enum-told .given .1) in
     (s .pre .0, ((omega (arith, j .before .before .read-list .ok), s .pre .1 .0), (below, s .pre .1 .1 .0)))
 
+told-tails-requires : tie.Need-told-tails-requires
+told-tails-requires c κs = search needs
+
 same-length : tie.Need-same-length
 same-length c = search needs
 
 returns : tie.Need-returns
 returns c = search listed-sent
+
+told-tails-requires-2 : tie.Need-told-tails-requires-2
+told-tails-requires-2 c κs = search needs
 
 same-length-2 : tie.Need-same-length-2
 same-length-2 c = search needs
@@ -53,11 +62,14 @@ send-listed-spec =
     read-list-requires
     judge-cpus-requires
     enum-known-verdict
+    told-requires
     enum-told
     bytes64-requires
     send-all-requires
+    told-tails-requires
     same-length
     returns
+    told-tails-requires-2
     same-length-2
     returns-2
     same-length-3
