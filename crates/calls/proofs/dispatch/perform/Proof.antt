@@ -64,13 +64,13 @@ enum-told-8 : tie.Need-enum-told-8
 enum-told-8 c = search needs
 
 mmu-tsb-ctx0-requires : tie.Need-mmu-tsb-ctx0-requires
-mmu-tsb-ctx0-requires c κs = search needs
+mmu-tsb-ctx0-requires c κs = (search needs, (search needs, search needs))
 
 enum-told-9 : tie.Need-enum-told-9
 enum-told-9 c = search needs
 
 mmu-tsb-ctxnon0-requires : tie.Need-mmu-tsb-ctxnon0-requires
-mmu-tsb-ctxnon0-requires c κs = search needs
+mmu-tsb-ctxnon0-requires c κs = (search needs, (search needs, search needs))
 
 enum-told-10 : tie.Need-enum-told-10
 enum-told-10 c = search needs
