@@ -10,6 +10,7 @@ use borrow.Author.Tests.{ltb-true, lt-ltb, le-ltb, not-true, not-false}
 use Rattle.rules.specs.declared.Answer.the-variants.{Refused}
 use Rattle.rules.specs.declared.Event.{Event}
 use Rattle.rules.specs.declared.Owner.{Owner}
+use Rattle.rules.specs.declared.Plant.{Plant}
 use Rattle.rules.specs.declared.Refusal.{Refusal}
 use Rattle.rules.specs.declared.Refusal.the-variants.{BadTables, ShortMemory, NoCaller, NoSource}
 use Rattle.rules.specs.declared.Tables.{Tables}
@@ -186,5 +187,6 @@ module _ (tables : Tables) (m : List ℕ) (e : Verdict) (p : e ≡ entryOf table
 
   pub settles-answered : (g : ℕ) → x ≡ Seat.Guest g → (d : Done) (after : List ℕ)
       → Follows (guestAt tables g .extents) (plantAt tables g) (plantRule (sightOf (extentsOf tables g) m) (plantAt tables g) event) m d after
-      → s .answer ≡ d .answer → s .tables ≡ withPlant tables g (plantAfter (plantAt tables g) d) → Settles (hostEvent tables m event) s after
-  settles-answered g h d after f a t = rw (seat-follows tables m event g d after (sym (seat-is tables (length m) e p event x q) ∙ h) f) (record { answer = a; tables = t; memory = refl })
+      → s .answer ≡ d .answer → (next : Plant) → next ≡ plantAfter (plantAt tables g) d → s .tables ≡ withPlant tables g next → Settles (hostEvent tables m event) s after
+  settles-answered g h d after f a next n t =
+      rw (seat-follows tables m event g d after (sym (seat-is tables (length m) e p event x q) ∙ h) f) (record { answer = a; tables = t ∙ ap (withPlant tables g) n; memory = refl })

@@ -30,6 +30,9 @@ element-copy-out-guest c = omega (arith, guest-below _ _ _ (c .before .before .b
 plant-event-requires : tie.Need-plant-event-requires
 plant-event-requires c κs = guest-sound _ _ _ (c .before .before .before .before .before .before .before .before .entry-of .ensures) _ _ (c .before .before .before .before .before .before .before .seat-of .ensures) _ (c .before .before .before .before .before .i .given .1)
 
+plant-after-requires : tie.Need-plant-after-requires
+plant-after-requires c κs = guest-sound _ _ _ (c .before .before .before .before .before .before .before .before .before .before .before .entry-of .ensures) _ _ (c .before .before .before .before .before .before .before .before .before .before .seat-of .ensures) _ (c .before .before .before .before .before .before .before .before .i .given .1) .cpus
+
 with-plant-requires : tie.Need-with-plant-requires
 with-plant-requires c κs = omega (arith, guest-below _ _ _ (c .before .before .before .before .before .before .before .before .before .before .before .before .entry-of .ensures) _ _ (c .before .before .before .before .before .before .before .before .before .before .before .seat-of .ensures) _ (c .before .before .before .before .before .before .before .before .before .i .given .1))
 
@@ -44,7 +47,7 @@ returns-2 : tie.Need-returns-2
 returns-2 c = let p = c .before .before .before .before in
     let i = p .before .before .before .before .before .before in
     let s = i .before .before in
-    settles-answered _ _ _ (s .before .entry-of .ensures) _ _ (s .seat-of .ensures) _ _ (i .i .given .1) (p .plant-event .result) _ (p .plant-event .ensures) refl (c .with-plant .ensures)
+    settles-answered _ _ _ (s .before .entry-of .ensures) _ _ (s .seat-of .ensures) _ _ (i .i .given .1) (p .plant-event .result) _ (p .plant-event .ensures) refl _ (c .before .plant-after .ensures) (c .with-plant .ensures)
 
 pub event-spec : {M : Type 1} → statement M
 event-spec =
@@ -58,6 +61,7 @@ event-spec =
     mul-guest
     element-copy-out-guest
     plant-event-requires
+    plant-after-requires
     with-plant-requires
     returns
     same-length

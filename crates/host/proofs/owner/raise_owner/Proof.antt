@@ -19,6 +19,9 @@ abbrev μ-loop : tie.MeasureT-loop
 loop-holds : tie.Need-loop-holds Inv-loop μ-loop
 loop-holds c = (omega arith, refl, first-start _)
 
+returns : tie.Need-returns Inv-loop μ-loop
+returns c = search owner-none
+
 mul-at : tie.Need-mul-at Inv-loop μ-loop
 mul-at c = omega arith
 
@@ -26,10 +29,10 @@ array-copy-out-at : tie.Need-array-copy-out-at Inv-loop μ-loop
 array-copy-out-at c = omega arith
 
 has-source-requires : tie.Need-has-source-requires Inv-loop μ-loop
-has-source-requires c κs = c .before .before .before .before .pre .each (c .before .before .before .loop .g) (omega arith)
+has-source-requires c κs = c .before .before .before .before .before .pre .each (c .before .before .before .before .loop .g) (omega arith)
 
-returns : tie.Need-returns Inv-loop μ-loop
-returns c = search owner-found
+returns-2 : tie.Need-returns-2 Inv-loop μ-loop
+returns-2 c = search owner-found
 
 add-g : tie.Need-add-g Inv-loop μ-loop
 add-g c = omega arith
@@ -40,8 +43,10 @@ loop-less c = omega arith
 loop-again : tie.Need-loop-again Inv-loop μ-loop
 loop-again c = (omega arith, search needs, search first-next)
 
-returns-2 : tie.Need-returns-2 Inv-loop μ-loop
-returns-2 c = search owner-none
+returns-3 : tie.Need-returns-3 Inv-loop μ-loop
+returns-3 c =
+    let l = c .before .loop in
+    owner-none _ _ _ (l .g) (l .inv .2) (omega arith) (omega (arith, c .before .before .pre .few))
 
 pub raise-owner-spec : {M : Type 1} → statement M
 raise-owner-spec =
@@ -50,11 +55,12 @@ raise-owner-spec =
     Inv-loop
     μ-loop
     loop-holds
+    returns
     mul-at
     array-copy-out-at
     has-source-requires
-    returns
+    returns-2
     add-g
     loop-less
     loop-again
-    returns-2)
+    returns-3)
