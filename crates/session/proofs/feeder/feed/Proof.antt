@@ -8,7 +8,7 @@ use lib.ListN.{length, take, length-map}
 use Rattle.host.specs.Seats.{entryOf}
 use Rattle.host.proofs.EntryLaws.{right-keeps}
 use Rattle.session.proofs.FeedLaws.{at as start, Room, Feeding, feeding-start, room-start, line-taken, turn-push, turn-drop, turn-reply, turns-done, feeds-as}
-use Rattle.session.proofs.Answers.{answers-bad, answers-loaded, answers-refused, answers-guest, guest-fine, memory-same, entry-same, asked-as}
+use Rattle.session.proofs.Answers.{answers-bad, answers-loaded, answers-refused, guest-fine, next-changed, next-same, answers-guest, memory-same, entry-same, asked-as}
 use Rattle.session.proofs.feeder.feed.Statement.{statement}
 use Rattle.session.proofs.feeder.feed.Tie as tie
 
@@ -119,16 +119,46 @@ plant-event-requires : tie.Need-plant-event-requires Inv-loop μ-loop
 plant-event-requires c κs = let l = c .before .before .before .before .before .before .before .before .before .before .before .before .loop in
     guest-fine _ (l .mem) (take (l .held) (l .line)) _ _ (asked-as _ (l .mem) (take (l .held) (l .line)) _ (l .inv .1) _ (c .before .before .before .before .before .before .before .ask .ensures) _ (c .before .before .before .before .before .g .given .1)) .1
 
-mul-guest-2 : tie.Need-mul-guest-2 Inv-loop μ-loop
-mul-guest-2 c = let l = c .before .before .before .before .before .before .before .before .before .before .before .before .before .before .before .before .loop in
-    omega (arith, guest-fine _ (l .mem) (take (l .held) (l .line)) _ _ (asked-as _ (l .mem) (take (l .held) (l .line)) _ (l .inv .1) _ (c .before .before .before .before .before .before .before .before .before .before .before .ask .ensures) _ (c .before .before .before .before .before .before .before .before .before .g .given .1)) .0)
-
-element-set-from-guest : tie.Need-element-set-from-guest Inv-loop μ-loop
-element-set-from-guest c = let l = c .before .before .before .before .before .before .before .before .before .before .before .before .before .before .before .before .loop in
-    omega (arith, guest-fine _ (l .mem) (take (l .held) (l .line)) _ _ (asked-as _ (l .mem) (take (l .held) (l .line)) _ (l .inv .1) _ (c .before .before .before .before .before .before .before .before .before .before .before .ask .ensures) _ (c .before .before .before .before .before .before .before .before .before .g .given .1)) .0)
-
 put-reply-requires-4 : tie.Need-put-reply-requires-4 Inv-loop μ-loop
 put-reply-requires-4 c κs = search needs
+
+is-change-requires : tie.Need-is-change-requires Inv-loop μ-loop
+is-change-requires c κs = search needs
+
+mul-now : tie.Need-mul-now Inv-loop μ-loop
+mul-now c = let g = c .before .before .before .before .before .before .before .before .before .before .before .before .before .before in
+    let a = g .before .before in
+    let l = a .before .before .before .before .before .loop in
+    let s = asked-as _ (l .mem) (take (l .held) (l .line)) _ (l .inv .1) _ (a .ask .ensures) _ (g .g .given .1) in
+    omega (arith, guest-fine _ (l .mem) (take (l .held) (l .line)) _ _ s .0)
+
+element-copy-out-now : tie.Need-element-copy-out-now Inv-loop μ-loop
+element-copy-out-now c = let g = c .before .before .before .before .before .before .before .before .before .before .before .before .before .before in
+    let a = g .before .before in
+    let l = a .before .before .before .before .before .loop in
+    let s = asked-as _ (l .mem) (take (l .held) (l .line)) _ (l .inv .1) _ (a .ask .ensures) _ (g .g .given .1) in
+    omega (arith, guest-fine _ (l .mem) (take (l .held) (l .line)) _ _ s .0)
+
+plant-after-requires : tie.Need-plant-after-requires Inv-loop μ-loop
+plant-after-requires c κs = let g = c .before .before .before .before .before .before .before .before .before .before .before .before .before .before .before .before in
+    let a = g .before .before in
+    let l = a .before .before .before .before .before .loop in
+    let s = asked-as _ (l .mem) (take (l .held) (l .line)) _ (l .inv .1) _ (a .ask .ensures) _ (g .g .given .1) in
+    guest-fine _ (l .mem) (take (l .held) (l .line)) _ _ s .1 .cpus
+
+mul-now-2 : tie.Need-mul-now-2 Inv-loop μ-loop
+mul-now-2 c = let g = c .before .before .before .before .before .before .before .before .before .before .before .before .before .before .before .before .before in
+    let a = g .before .before in
+    let l = a .before .before .before .before .before .loop in
+    let s = asked-as _ (l .mem) (take (l .held) (l .line)) _ (l .inv .1) _ (a .ask .ensures) _ (g .g .given .1) in
+    omega (arith, guest-fine _ (l .mem) (take (l .held) (l .line)) _ _ s .0)
+
+element-set-from-now : tie.Need-element-set-from-now Inv-loop μ-loop
+element-set-from-now c = let g = c .before .before .before .before .before .before .before .before .before .before .before .before .before .before .before .before .before in
+    let a = g .before .before in
+    let l = a .before .before .before .before .before .loop in
+    let s = asked-as _ (l .mem) (take (l .held) (l .line)) _ (l .inv .1) _ (a .ask .ensures) _ (g .g .given .1) in
+    omega (arith, guest-fine _ (l .mem) (take (l .held) (l .line)) _ _ s .0)
 
 loop-less-3 : tie.Need-loop-less-3 Inv-loop μ-loop
 loop-less-3 c = omega arith
@@ -161,17 +191,36 @@ loop-again-5 c = let l = c .before .before .before .before .before .before .befo
     (w .0, l .inv .1, w .1)
 
 loop-less-6 : tie.Need-loop-less-6 Inv-loop μ-loop
-loop-less-6 c = omega arith
+loop-less-6 c = omega (arith, c .before .before .before .before .before .before .before .before .before .before .before .before .before .before .before .before .before .before .before .before .before .before .before .loop-test .taken)
 
 loop-again-6 : tie.Need-loop-again-6 Inv-loop μ-loop
-loop-again-6 c = let l = c .before .before .before .before .before .before .before .before .before .before .before .before .before .before .before .before .before .before .before .before .loop in
-    let s = asked-as _ (l .mem) (take (l .held) (l .line)) _ (l .inv .1) _ (c .before .before .before .before .before .before .before .before .before .before .before .before .before .before .before .ask .ensures) _ (c .before .before .before .before .before .before .before .before .before .before .before .before .before .g .given .1) in
-    let d = c .before .before .before .before .before .before .before .plant-event in
-    let w = turn-reply _ _ _ _ _ _ _ _ _ _ _ _ (l .inv .0) (l .inv .2) (c .before .before .before .before .before .before .before .before .before .before .before .before .before .before .before .before .before .before .before .loop-test .taken) _ refl (c .before .before .before .before .before .before .before .before .before .before .before .before .before .before .before .before .before .if1 .left) _ _ _
-    (memory-same _ (l .mem) (take (l .held) (l .line)) _ _ s (d .result) _ (d .ensures))
-    (answers-guest _ (l .mem) (take (l .held) (l .line)) _ _ s (d .result) _ (d .ensures))
-    _ _ (c .before .before .put-reply4 .ensures) in
-    (w .0, l .inv .1 ∙ sym (entry-same _ (l .mem) (take (l .held) (l .line)) _ _ s (d .result) _ (d .ensures)), w .1)
+loop-again-6 c = let g = c .before .before .before .before .before .before .before .before .before .before .before .before .before .before .before .before .before in
+    let a = g .before .before in
+    let l = a .before .before .before .before .before .loop in
+    let s = asked-as _ (l .mem) (take (l .held) (l .line)) _ (l .inv .1) _ (a .ask .ensures) _ (g .g .given .1) in
+    let d = c .before .before .before .before .before .before .before .before .before .before .before .plant-event in
+    let n = next-changed _ (l .mem) (take (l .held) (l .line)) _ _ s (d .result) _ (d .ensures) _ (c .plant-after .ensures) in
+    let w = turn-reply _ _ _ _ _ _ _ _ _ _ _ _ (l .inv .0) (l .inv .2) (a .before .before .before .before .loop-test .taken) _ refl (a .before .before .if1 .left) _ _ _
+    (memory-same _ (l .mem) (take (l .held) (l .line)) _ _ s (d .result) _ (d .ensures) _ n)
+    (answers-guest _ (l .mem) (take (l .held) (l .line)) _ _ s (d .result) _ (d .ensures) _ n)
+    _ _ (c .before .before .before .before .before .before .before .put-reply4 .ensures) in
+    (w .0, l .inv .1 ∙ sym (entry-same _ (l .mem) (take (l .held) (l .line)) _ _ s (d .result) _ (d .ensures) _ n), w .1)
+
+loop-less-7 : tie.Need-loop-less-7 Inv-loop μ-loop
+loop-less-7 c = omega arith
+
+loop-again-7 : tie.Need-loop-again-7 Inv-loop μ-loop
+loop-again-7 c = let g = c .before .before .before .before .before .before .before .before .before .before .before .before .before .before in
+    let a = g .before .before in
+    let l = a .before .before .before .before .before .loop in
+    let s = asked-as _ (l .mem) (take (l .held) (l .line)) _ (l .inv .1) _ (a .ask .ensures) _ (g .g .given .1) in
+    let d = c .before .before .before .before .before .before .before .before .plant-event in
+    let n = next-same _ (l .mem) (take (l .held) (l .line)) _ _ s (d .result) _ (d .ensures) (sym (c .before .is-change .ensures) ∙ c .if3 .left) in
+    let w = turn-reply _ _ _ _ _ _ _ _ _ _ _ _ (l .inv .0) (l .inv .2) (a .before .before .before .before .loop-test .taken) _ refl (a .before .before .if1 .left) _ _ _
+    (memory-same _ (l .mem) (take (l .held) (l .line)) _ _ s (d .result) _ (d .ensures) _ n)
+    (answers-guest _ (l .mem) (take (l .held) (l .line)) _ _ s (d .result) _ (d .ensures) _ n)
+    _ _ (c .before .before .before .before .put-reply4 .ensures) in
+    (w .0, l .inv .1 ∙ sym (entry-same _ (l .mem) (take (l .held) (l .line)) _ _ s (d .result) _ (d .ensures) _ n), w .1)
 
 same-length : tie.Need-same-length Inv-loop μ-loop
 same-length c = search needs
@@ -219,9 +268,13 @@ feed-spec =
     mul-guest
     element-copy-out-guest
     plant-event-requires
-    mul-guest-2
-    element-set-from-guest
     put-reply-requires-4
+    is-change-requires
+    mul-now
+    element-copy-out-now
+    plant-after-requires
+    mul-now-2
+    element-set-from-now
     loop-less-3
     loop-again-3
     loop-less-4
@@ -230,6 +283,8 @@ feed-spec =
     loop-again-5
     loop-less-6
     loop-again-6
+    loop-less-7
+    loop-again-7
     same-length
     same-length-2
     returns)
