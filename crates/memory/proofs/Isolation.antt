@@ -1,6 +1,6 @@
 -- Isolation: what a guest writes changes no byte outside the host pages of its own extents, so nothing that another guest sees.
 use mathlib.Core.Path.{_≡_, refl, sym, ap, _∙_, fun-ext}
-use mathlib.Core.Bool.{Bool, true, false, _&&_, _||_, true≢false, false≢true}
+use mathlib.Core.Bool.{Bool, true, false, _||_, true≢false, false≢true}
 use mathlib.Core.List.{List, [], _∷_}
 use Prim.Native.Nat.{ℕ, suc, _+_, _*_, _≤_, min, max}
 use native.Mathlib.Omega.{arith}
@@ -14,17 +14,9 @@ use Rattle.rules.specs.Limits.{pageSize}
 use Rattle.rules.specs.Image.{share}
 use Rattle.rules.specs.Real.{low, high, holds, hostOffset, valid, located, byteThere, byteAt, sightOf, putThere, putBytes, Write, apply}
 use Rattle.rules.proofs.Tests.{and-left, and-right}
-use Rattle.memory.specs.Cells.{cell}
+use Rattle.memory.specs.Cells.{cell, within, owns}
 use Rattle.memory.proofs.Holds.{holds-low, holds-high}
 use Rattle.memory.proofs.Places.{Lies, here, later, lies, nowhere}
-
--- the host offset k is in the extent's host pages, or in those of one of the extents
-abbrev pub within : Extent → ℕ → Bool
-within x k = leb (x .host * pageSize) k && leb (k + 1) ((x .host + x .count) * pageSize)
-
-unfoldable pub owns : List Extent → ℕ → Bool
-owns [] k = false
-owns (x ∷ xs) k = within x k || owns xs k
 
 -- no host offset is both's
 abbrev pub Strangers : List Extent → List Extent → Type 0

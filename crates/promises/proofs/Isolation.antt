@@ -19,8 +19,8 @@ use Rattle.rules.specs.Real.{sightOf}
 use Rattle.rules.specs.Rulings.{refused, outcomeOf}
 use Rattle.rules.specs.Tables.{keepRules}
 use Rattle.rules.specs.Host.{HostOutcome, plantRule, ownerOf, longEnough, hostRule, hostEvent}
-use Rattle.memory.specs.Cells.{cell}
-use Rattle.memory.proofs.Isolation.{owns, apply-other}
+use Rattle.memory.specs.Cells.{cell, owns}
+use Rattle.memory.proofs.Isolation.{apply-other}
 use Rattle.memory.proofs.Checked.{guests-strangers}
 use Rattle.tables.proofs.SoundTables.{guests-few, pages-apart}
 use Rattle.kept.proofs.Settled.{settled, event-settled, few}

@@ -18,9 +18,8 @@ use Rattle.rules.specs.Host.{HostOutcome, ownerOf, longEnough, hostEvent}
 use Rattle.rules.proofs.Computing.{computing}
 use Rattle.rules.proofs.Examples.{workedImage, workedTables, start, next, after}
 use Rattle.rules.proofs.AcceptedCalls.{storing}
-use Rattle.memory.specs.Cells.{cell}
+use Rattle.memory.specs.Cells.{cell, owns}
 use Rattle.memory.specs.Ready.{present}
-use Rattle.memory.proofs.Isolation.{owns}
 use Rattle.kept.proofs.Accepted.{load-keeps}
 use Rattle.kept.proofs.Tables.{event-keeps}
 use Rattle.promises.proofs.Isolation.{isolation, nobodys-bytes}
