@@ -12,6 +12,5 @@ pub use change::is_change;
 pub use change::plant_after;
 pub use change::told;
 pub use parts::at_tail;
-pub use parts::queue_at;
 pub use rings::Put;
 pub use rings::put_entry;

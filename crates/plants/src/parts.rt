@@ -1,4 +1,4 @@
-// Parts of a plant's record: where a queue is found, and what several cpus or sources become.
+// Parts of a plant's record: what a ring, several cpus and all sources become.
 use rules::CPUS;
 use rules::Cpu;
 use rules::Plant;
@@ -9,21 +9,10 @@ use rules::SOURCES;
 use rules::Source;
 ghost use mathlib.Core.Path.{_≡_};
 ghost use mathlib.Core.List.{map};
-ghost use Prim.Native.Nat.{_<_, _≤_};
-ghost use Rattle.rules.specs.Limits.{cpuLimit, queueLimit};
-ghost use Rattle.rules.specs.Kept.{cpuAt, queueAt};
+ghost use Prim.Native.Nat.{_≤_};
+ghost use Rattle.rules.specs.Limits.{cpuLimit};
 ghost use Rattle.rules.specs.Versions.{disabled};
 ghost use Rattle.plants.specs.Changes.{atTail, cpuAtTail, withTails};
-
-// Queue q of a cpu.
-pub fn queue_at(plant: Plant, cpu: usize, q: usize) -> QueueRecord
-    requires { ⌜ (cpu < cpuLimit) × (q < queueLimit) ⌝ }
-    ensures { λ r. ⌜ r ≡ queueAt (cpuAt plant cpu) q ⌝ }
-{
-    let c = plant.cpu[cpu];
-    let queue = c.queues[q];
-    queue.held
-}
 
 // Every source disabled.
 pub fn all_disabled(source: [Source; SOURCES]) -> [Source; SOURCES]

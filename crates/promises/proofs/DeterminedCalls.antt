@@ -13,7 +13,6 @@ use Rattle.plants.specs.declared.change.Done.{Done}
 use Rattle.plants.specs.Changes.{plantAfter}
 use Rattle.plants.specs.Done.{quietly, saying}
 use Rattle.plants.specs.Follows.{Follows}
-use Rattle.plants.proofs.queue_at.Reads as queue-at-reads
 use Rattle.plants.proofs.at_tail.Reads as at-tail-reads
 use Rattle.plants.proofs.told.Reads as told-reads
 use Rattle.plants.proofs.done_by.Reads as done-by-reads
@@ -55,10 +54,7 @@ one-answer plant o r s p q = λ i. (p ∙ sym q) i .answer
 one-following : (e : Extents) (plant : Plant) (x : Ruling Outcome) (before : List ℕ) (r s : Done) (m n : List ℕ) → Follows e plant x before r m → Follows e plant x before s n → Same plant r s × (m ≡ n)
 one-following e plant x before r s m n p q = ((p .answer ∙ sym (q .answer), p .plant ∙ sym (q .plant)), p .memory ∙ sym (q .memory))
 
--- plants: what the calls share: a part of the record, and an entry in a ring
-pub queue-at-determined : (κs : _) (a : _) (r s : _) (ws vs : _) → queue-at-reads.Post κs a r ws → queue-at-reads.Post κs a s vs → r ≡ s
-queue-at-determined κs a r s ws vs p q = p ∙ sym q
-
+-- plants: what the calls share: what they give back, the record after, and an entry in a ring
 pub at-tail-determined : (κs : _) (a : _) (r s : _) (ws vs : _) → at-tail-reads.Post κs a r ws → at-tail-reads.Post κs a s vs → r ≡ s
 at-tail-determined κs a r s ws vs p q = p ∙ sym q
 

@@ -3,7 +3,6 @@ use plants::Change;
 use plants::CpuChange;
 use plants::Done;
 use plants::done_by;
-use plants::queue_at;
 use plants::told;
 use records::Verdict;
 use rules::Answer;
@@ -14,7 +13,7 @@ use rules::Refusal;
 use rules::Ring;
 ghost use mathlib.Core.Path.{_≡_};
 ghost use Prim.Native.Nat.{_≤_, _<_, _-_};
-ghost use Rattle.rules.specs.Limits.{cpuLimit, extentLimit};
+ghost use Rattle.rules.specs.Limits.{cpuLimit, extentLimit, queueLimit};
 ghost use Rattle.rules.specs.Rulings.{outcomeOf};
 ghost use Rattle.rules.specs.declared.Plant.{Plant as PlantRecord};
 ghost use Rattle.rules.specs.Kept.{cpuAt, queueAt, withHead};
@@ -22,6 +21,16 @@ ghost use Rattle.rules.specs.Queues.{forward, cpu-qconf, cpu-qinfo, cpu-myid, w
 ghost use Rattle.plants.specs.Changes.{doneBy};
 ghost use Rattle.plants.specs.Done.{quietly, saying, validIn};
 ghost use Rattle.queues.specs.Rings.{PlacesIn, PlacesSound, newHead, movedOf};
+
+// Queue q of a cpu.
+fn queue_at(plant: Plant, cpu: usize, q: usize) -> QueueRecord
+    requires { ⌜ (cpu < cpuLimit) × (q < queueLimit) ⌝ }
+    ensures { λ r. ⌜ r ≡ queueAt (cpuAt plant cpu) q ⌝ }
+{
+    let c = plant.cpu[cpu];
+    let queue = c.queues[q];
+    queue.held
+}
 
 // Queue q of a cpu holds another record.
 fn held_now(cpu: usize, q: usize, held: QueueRecord) -> Done
