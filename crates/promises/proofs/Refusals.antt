@@ -1,8 +1,9 @@
--- Promise: a refusal changes nothing, for every input. The paper says otherwise of two only: 0x102, and a mondo send that would
--- block.
+-- Promise: a refusal changes nothing, for every input. The paper says otherwise of EWOULDBLOCK, and of EBADALIGN and ENORADDR
+-- where 0x102 answers them, and of no other.
 use mathlib.Core.Path.{_≡_, refl, sym, ap, _∙_}
 use mathlib.Core.Bool.{Bool, true, false, _&&_, _||_, not, true≢false}
 use mathlib.Core.List.{List, []}
+use mathlib.Core.Logic.{_⊎_, inl, inr}
 use Prim.Native.Nat.{ℕ, _-_, _*_, _%_}
 use lib.Dec.{leb, ltb, eqb}
 use lib.ListN.{length}
@@ -27,11 +28,27 @@ use Rattle.rules.specs.Versions.{groupOf, known, majorOf, newest, set-version, 
 use Rattle.rules.specs.Queues.{isQueue, forward, hasRoom, newRing, ringOf, baseAndSize, cpu-qconf, cpu-qinfo, cpu-myid, write-head}
 use Rattle.rules.specs.Mondo.{entryAt, entries, Sent, sendAll, sentAs, cpu-mondo-send}
 use Rattle.rules.specs.Tsb.{newTsbs, mmu-tsb-ctx0, mmu-tsb-ctxnon0}
-use Rattle.rules.specs.Memory.{wholePages, mem-scrub, mem-sync, wholeWord, store-word, load-word, newStatistics, mmustat-conf, mmustat-info}
+use Rattle.rules.specs.Memory.{wholePages, mem-scrub, mem-sync, wholeWord, store-word, load-word, newStatistics, setOrClear, mmustat-conf, mmustat-info}
 use Rattle.rules.specs.Sources.{found, sysinoOf, devMondo, deliver, deliverTo, get-enabled, set-enabled, get-state, set-state, get-target, set-target, get-cookie, set-cookie, intr-devino2sysino, intr, vintr, raiseAt, raise}
 use Rattle.rules.specs.Calls.{functionOf, admitted, perform, call}
 use Rattle.rules.specs.Tables.{keepRules}
 use Rattle.rules.specs.Host.{HostOutcome, plantRule, ownerOf, longEnough, answeredBy, hostOutcomeOf, hostRule, hostEvent}
+
+-- a call of 0x102
+abbrev pub StatisticsCall : Event → Type 0
+StatisticsCall (Event.Call c) = functionOf (c .trap) (c .function) ≡ Function.MmustatConf
+StatisticsCall (Event.Head h) = ⊥
+StatisticsCall (Event.Raise d) = ⊥
+StatisticsCall (Event.Load l) = ⊥
+StatisticsCall (Event.Store s) = ⊥
+
+-- the refusals of 0x102 that "set the statistics address to 0"
+abbrev pub Clears : Refusal → Type 0
+Clears r = (r ≡ EBADALIGN) ⊎ (r ≡ ENORADDR)
+
+-- What is excepted, of an event that answers the refusal r: EWOULDBLOCK ("see mondo send"), and those two of 0x102.
+abbrev pub Excepted : Event → Refusal → Type 0
+Excepted event r = (r ≡ EWOULDBLOCK) ⊎ (StatisticsCall event × Clears r)
 
 -- an answer that is no refusal
 abbrev accepting : Answer → Bool
@@ -40,23 +57,23 @@ accepting (One v) = true
 accepting (Two v w) = true
 accepting (Refused r) = false
 
-module _ (plant : Plant) where
-  -- a ruling that leaves the plant's record and memory if it answers a refusal other than EWOULDBLOCK
+module _ (plant : Plant) (r : Refusal) where
+  -- a ruling that leaves the plant's record and memory if it answers r
   abbrev pub Still : Ruling Outcome → Type 0
-  Still x = (r : Refusal) → (r ≡ EWOULDBLOCK → ⊥) → outcomeOf plant x .answer ≡ Refused r → (outcomeOf plant x .plant ≡ plant) × (outcomeOf plant x .writes ≡ [])
+  Still x = outcomeOf plant x .answer ≡ Refused r → (outcomeOf plant x .plant ≡ plant) × (outcomeOf plant x .writes ≡ [])
 
-  still-refused : (r : Refusal) → Still (refused r)
-  still-refused r s n e = (refl, refl)
+  still-refused : (s : Refusal) → Still (refused s)
+  still-refused s e = (refl, refl)
 
   still-granted : (o : Outcome) → accepting (o .answer) ≡ true → Still (granted o)
-  still-granted o a r n e = absurd (true≢false (sym a ∙ ap accepting e))
+  still-granted o a e = absurd (true≢false (sym a ∙ ap accepting e))
 
-  still-then : (t : Bool) (r : Refusal) (x : Ruling Outcome) → Still x → Still (t or-refuse r then x)
-  still-then true r x s = s
-  still-then false r x s = still-refused r
+  still-then : (t : Bool) (s : Refusal) (x : Ruling Outcome) → Still x → Still (t or-refuse s then x)
+  still-then true s x k = k
+  still-then false s x k = still-refused s
 
   still-grants : {A : Type 0} (m : Ruling A) (k : A → Ruling Outcome) → ((a : A) → Still (k a)) → Still (m grants k)
-  still-grants (refused r) k s = still-refused r
+  still-grants (refused q) k s = still-refused q
   still-grants (granted a) k s = s a
 
   still-if : (t : Bool) (x y : Ruling Outcome) → Still x → Still y → Still (if t then x else y)
@@ -99,23 +116,24 @@ module _ (plant : Plant) where
       (still-grants (ringOf (queueAt (cpuAt plant cpu) (queue - 0x3c))) _ (λ ring.
       still-then (eqb (value % 64) 0) EBADALIGN _ (still-then (ltb value (ring .size) && leb (forward ring value) (forward ring (ring .tail))) EINVAL _ (still-granted _ refl))))
 
-  -- a mondo send: what is left is told by EWOULDBLOCK
-  sent-still : (s : Sent) (t : Bool) → s .all ≡ t → Still (granted (sentAs s))
-  sent-still s true q r n e = absurd (true≢false (ap accepting (rw q at e)))
-  sent-still s false q r n e = absurd (n (sym (blocked r (rw q at e))))
-    where
-      blocked : (r : Refusal) → Refused EWOULDBLOCK ≡ Refused r → EWOULDBLOCK ≡ r
-      blocked r e = cc
+  -- the refusal that an answer tells
+  told : (s : Refusal) → Refused s ≡ Refused r → r ≡ s
+  told s e = cc
 
-  mondo-still : (sight : Sight) (cpu count list dataAt : ℕ) → Still (cpu-mondo-send sight plant cpu count list dataAt)
+  -- a mondo send: what is left is told by EWOULDBLOCK
+  sent-still : (r ≡ EWOULDBLOCK → ⊥) → (s : Sent) (t : Bool) → s .all ≡ t → Still (granted (sentAs s))
+  sent-still n s true q e = absurd (true≢false (ap accepting (rw q at e)))
+  sent-still n s false q e = absurd (n (told EWOULDBLOCK (rw q at e)))
+
+  mondo-still : (r ≡ EWOULDBLOCK → ⊥) → (sight : Sight) (cpu count list dataAt : ℕ) → Still (cpu-mondo-send sight plant cpu count list dataAt)
   unfolding cpu-mondo-send
-  mondo-still sight cpu count list dataAt =
+  mondo-still n sight cpu count list dataAt =
       still-then (leb 1 count && leb count 64) EINVAL _
       (still-then (eqb (dataAt % 64) 0 && eqb (list % 2) 0) EBADALIGN _
       (still-then (sight .valid dataAt 64 && sight .valid list (2 * count)) ENORADDR _
       (still-then (not (someBelow count (λ i. eqb (entryAt (sight .byte) list i) cpu))) EINVAL _
       (still-then (allBelow count (λ i. ltb (entryAt (sight .byte) list i) (plant .cpus))) ENOCPU _
-      (sent-still (sendAll plant (entries (sight .byte) list count) (bytesFrom (sight .byte) dataAt 64) list) _ refl)))))
+      (sent-still n (sendAll plant (entries (sight .byte) list count) (bytesFrom (sight .byte) dataAt 64) list) _ refl)))))
 
   -- TSB lists and memory
   ctx0-still : (sight : Sight) (cpu ntsb pointer : ℕ) → Still (mmu-tsb-ctx0 sight plant cpu ntsb pointer)
@@ -133,6 +151,17 @@ module _ (plant : Plant) where
   word-still : (v : ℕ → ℕ → Bool) (address : ℕ) (x : Ruling Outcome) → Still x → Still (wholeWord v address x)
   unfolding wholeWord
   word-still v address x s = still-then (eqb (address % 8) 0) EBADALIGN _ (still-then (v address 8) ENORADDR x s)
+
+  -- 0x102: each refusal of its address clears
+  conf-still : (Clears r → ⊥) → (v : ℕ → ℕ → Bool) (cpu address : ℕ) → Still (mmustat-conf v plant cpu address)
+  unfolding mmustat-conf newStatistics
+  conf-still n v cpu address = go (eqb address 0) (eqb (address % 64) 0) (v address 512)
+    where
+      go : (t u w : Bool) → Still (setOrClear plant cpu (if t then granted 0 else u or-refuse EBADALIGN then w or-refuse ENORADDR then granted address))
+      go true u w = still-granted _ refl
+      go false true true = still-granted _ refl
+      go false true false = λ e. absurd (n (inr (told ENORADDR e)))
+      go false false w = λ e. absurd (n (inl (told EBADALIGN e)))
 
   -- sources
   set-enabled-still : (i value : ℕ) → Still (set-enabled plant i value)
@@ -200,56 +229,50 @@ module _ (plant : Plant) where
       still-if (eqb (sourceAt plant i .state) 2) _ _ (still-granted _ refl)
       (still-if (eqb (sourceAt plant i .enabled) 1) _ _ (still-granted _ (deliver-accepting i (sourceAt plant i .target))) (still-granted _ refl)))
 
-  -- every call but 0x102
+  -- every call
   module _ (sight : Sight) (c : Call) where
     group-still : (t : Bool) (f : Function) → Still (perform sight plant c f) → Still ((t or-refuse EBADTRAP then granted f) grants λ f. perform sight plant c f)
     group-still true f s = s
     group-still false f s = still-refused EBADTRAP
 
-    perform-still : (f : Function) → (f ≡ Function.MmustatConf → ⊥) → Still (admitted (plant .versions) f grants λ f. perform sight plant c f)
+    perform-still : (r ≡ EWOULDBLOCK → ⊥) → (f : Function) → ((f ≡ Function.MmustatConf) × Clears r → ⊥) → Still (admitted (plant .versions) f grants λ f. perform sight plant c f)
     unfolding admitted perform cpu-myid mmustat-info mem-scrub mem-sync
-    perform-still Function.Unknown n = still-refused EBADTRAP
-    perform-still Function.SetVersion n = set-version-still (c .arg0) (c .arg1)
-    perform-still Function.GetVersion n = get-version-still (c .arg0)
-    perform-still Function.CpuQconf n = group-still (leb 1 (plant .versions .core)) Function.CpuQconf (qconf-still (sight .valid) (c .cpu) (c .arg0) (c .arg1) (c .arg2))
-    perform-still Function.CpuQinfo n = group-still (leb 1 (plant .versions .core)) Function.CpuQinfo (qinfo-still (c .cpu) (c .arg0))
-    perform-still Function.CpuMyid n = group-still (leb 1 (plant .versions .core)) Function.CpuMyid (still-granted _ refl)
-    perform-still Function.CpuMondoSend n = group-still (leb 1 (plant .versions .core)) Function.CpuMondoSend (mondo-still sight (c .cpu) (c .arg0) (c .arg1) (c .arg2))
-    perform-still Function.MmuTsbCtx0 n = group-still (leb 1 (plant .versions .core)) Function.MmuTsbCtx0 (ctx0-still sight (c .cpu) (c .arg0) (c .arg1))
-    perform-still Function.MmuTsbCtxnon0 n = group-still (leb 1 (plant .versions .core)) Function.MmuTsbCtxnon0 (ctxnon0-still sight (c .cpu) (c .arg0) (c .arg1))
-    perform-still Function.MemScrub n = group-still (leb 1 (plant .versions .core)) Function.MemScrub (pages-still (sight .valid) (c .arg0) (c .arg1) _ (still-granted _ refl))
-    perform-still Function.MemSync n = group-still (leb 1 (plant .versions .core)) Function.MemSync (pages-still (sight .valid) (c .arg0) (c .arg1) _ (still-granted _ refl))
-    perform-still Function.MmustatConf n = absurd (n refl)
-    perform-still Function.MmustatInfo n = group-still (leb 1 (plant .versions .statistics)) Function.MmustatInfo (still-granted _ refl)
-    perform-still (Function.Sysino k) n = go (leb 1 (plant .versions .interrupt)) (eqb (plant .versions .interrupt) 1)
+    perform-still m Function.Unknown n = still-refused EBADTRAP
+    perform-still m Function.SetVersion n = set-version-still (c .arg0) (c .arg1)
+    perform-still m Function.GetVersion n = get-version-still (c .arg0)
+    perform-still m Function.CpuQconf n = group-still (leb 1 (plant .versions .core)) Function.CpuQconf (qconf-still (sight .valid) (c .cpu) (c .arg0) (c .arg1) (c .arg2))
+    perform-still m Function.CpuQinfo n = group-still (leb 1 (plant .versions .core)) Function.CpuQinfo (qinfo-still (c .cpu) (c .arg0))
+    perform-still m Function.CpuMyid n = group-still (leb 1 (plant .versions .core)) Function.CpuMyid (still-granted _ refl)
+    perform-still m Function.CpuMondoSend n = group-still (leb 1 (plant .versions .core)) Function.CpuMondoSend (mondo-still m sight (c .cpu) (c .arg0) (c .arg1) (c .arg2))
+    perform-still m Function.MmuTsbCtx0 n = group-still (leb 1 (plant .versions .core)) Function.MmuTsbCtx0 (ctx0-still sight (c .cpu) (c .arg0) (c .arg1))
+    perform-still m Function.MmuTsbCtxnon0 n = group-still (leb 1 (plant .versions .core)) Function.MmuTsbCtxnon0 (ctxnon0-still sight (c .cpu) (c .arg0) (c .arg1))
+    perform-still m Function.MemScrub n = group-still (leb 1 (plant .versions .core)) Function.MemScrub (pages-still (sight .valid) (c .arg0) (c .arg1) _ (still-granted _ refl))
+    perform-still m Function.MemSync n = group-still (leb 1 (plant .versions .core)) Function.MemSync (pages-still (sight .valid) (c .arg0) (c .arg1) _ (still-granted _ refl))
+    perform-still m Function.MmustatConf n = group-still (leb 1 (plant .versions .statistics)) Function.MmustatConf (conf-still (λ k. n (refl, k)) (sight .valid) (c .cpu) (c .arg0))
+    perform-still m Function.MmustatInfo n = group-still (leb 1 (plant .versions .statistics)) Function.MmustatInfo (still-granted _ refl)
+    perform-still m (Function.Sysino k) n = go (leb 1 (plant .versions .interrupt)) (eqb (plant .versions .interrupt) 1)
       where
         go : (t u : Bool) → Still ((t or-refuse EBADTRAP then u or-refuse ENOTSUPPORTED then granted (Function.Sysino k)) grants λ f. perform sight plant c f)
         go true true = still-if (eqb k 0xa0) _ _ (devino-still (c .arg0) (c .arg1)) (intr-still k (c .arg0) (c .arg1))
         go true false = still-refused ENOTSUPPORTED
         go false u = still-refused EBADTRAP
-    perform-still (Function.Cookie k) n = go (eqb (plant .versions .interrupt) 2)
+    perform-still m (Function.Cookie k) n = go (eqb (plant .versions .interrupt) 2)
       where
         go : (t : Bool) → Still ((t or-refuse EBADTRAP then granted (Function.Cookie k)) grants λ f. perform sight plant c f)
         go true = vintr-still k (c .arg0) (c .arg1) (c .arg2)
         go false = still-refused EBADTRAP
 
--- an event that is no call of 0x102
-abbrev pub NotStatistics : Event → Type 0
-NotStatistics (Event.Call c) = functionOf (c .trap) (c .function) ≡ Function.MmustatConf → ⊥
-NotStatistics (Event.Head h) = Unit {0}
-NotStatistics (Event.Raise d) = Unit {0}
-NotStatistics (Event.Load l) = Unit {0}
-NotStatistics (Event.Store s) = Unit {0}
-
-plant-still : (sight : Sight) (plant : Plant) (event : Event) → NotStatistics event → Still plant (plantRule sight plant event)
+plant-still : (sight : Sight) (plant : Plant) (event : Event) (r : Refusal) → (Excepted event r → ⊥) → Still plant r (plantRule sight plant event)
 unfolding plantRule call load-word store-word
-plant-still sight plant (Event.Call c) n = still-then plant (ltb (c .cpu) (plant .cpus)) NoCaller _ (perform-still plant sight c (functionOf (c .trap) (c .function)) n)
-plant-still sight plant (Event.Head h) n = still-then plant (ltb (h .cpu) (plant .cpus)) NoCaller _ (head-still plant (h .cpu) (h .queue) (h .value))
-plant-still sight plant (Event.Raise d) n = raise-still plant (d .devhandle) (d .devino)
-plant-still sight plant (Event.Load l) n = word-still plant (sight .valid) (l .address) _ (still-granted plant _ refl)
-plant-still sight plant (Event.Store s) n = word-still plant (sight .valid) (s .address) _ (still-granted plant _ refl)
+plant-still sight plant (Event.Call c) r n =
+    still-then plant r (ltb (c .cpu) (plant .cpus)) NoCaller _
+    (perform-still plant r sight c (λ e. n (inl e)) (functionOf (c .trap) (c .function)) (λ e. n (inr e)))
+plant-still sight plant (Event.Head h) r n = still-then plant r (ltb (h .cpu) (plant .cpus)) NoCaller _ (head-still plant r (h .cpu) (h .queue) (h .value))
+plant-still sight plant (Event.Raise d) r n = raise-still plant r (d .devhandle) (d .devino)
+plant-still sight plant (Event.Load l) r n = word-still plant r (sight .valid) (l .address) _ (still-granted plant r _ refl)
+plant-still sight plant (Event.Store s) r n = word-still plant r (sight .valid) (s .address) _ (still-granted plant r _ refl)
 
-module _ (tables : Tables) (memory : List ℕ) (event : Event) (other : NotStatistics event) (r : Refusal) (more : r ≡ EWOULDBLOCK → ⊥) where
+module _ (tables : Tables) (memory : List ℕ) (event : Event) (r : Refusal) (other : Excepted event r → ⊥) where
   abbrev Unchanged : Ruling HostOutcome → Type 0
   Unchanged x = hostOutcomeOf tables memory x .answer ≡ Refused r → (hostOutcomeOf tables memory x .tables ≡ tables) × (hostOutcomeOf tables memory x .memory ≡ memory)
 
@@ -260,11 +283,12 @@ module _ (tables : Tables) (memory : List ℕ) (event : Event) (other : NotStati
     where
       go : (t : Bool) → ltb g (tables .guests) ≡ t → Unchanged (answeredBy tables memory event (Owner.Guest g))
       go true q = rw q (λ e.
-          let s = plant-still (sightOf (extentsOf tables g) memory) (plantAt tables g) event other r more e in
+          let s = plant-still (sightOf (extentsOf tables g) memory) (plantAt tables g) event r other e in
           rw (s .0, s .1) (ap (λ l. record { guests = tables .guests; guest = l }) (set-getD (tables .guest) g hollowGuest), refl))
       go false q = rw q (λ e. (refl, refl))
 
-  -- For every tables, memory and event, an answer that is a refusal leaves the tables and every byte of memory as they were.
+  -- For every tables, memory and event, an answer that is a refusal leaves the tables and every byte of memory as they were,
+  -- if it is not excepted.
   pub refusal-changes-nothing : hostEvent tables memory event .answer ≡ Refused r → (hostEvent tables memory event .tables ≡ tables) × (hostEvent tables memory event .memory ≡ memory)
   unfolding hostEvent hostRule
   refusal-changes-nothing = go (keepRules tables) (longEnough tables (length memory))
@@ -274,7 +298,7 @@ module _ (tables : Tables) (memory : List ℕ) (event : Event) (other : NotStati
       go true false = λ e. (refl, refl)
       go false u = λ e. (refl, refl)
 
--- The two others, of a plant: a refused 0x102 sets the statistics address to 0, and does nothing else.
+-- What the two excepted of 0x102 do to a plant: they set the statistics address to 0, and change nothing else.
 pub refused-statistics : (v : ℕ → ℕ → Bool) (plant : Plant) (cpu address : ℕ) (r : Refusal) → newStatistics v address ≡ refused r
     → mmustat-conf v plant cpu address ≡ says (Refused r) (withStatistics plant cpu 0)
 unfolding mmustat-conf
