@@ -2,10 +2,9 @@
 use mathlib.Core.Path.{_≡_, refl}
 use mathlib.Core.Bool.{Bool, true, false}
 use Prim.Native.Nat.{ℕ}
-use Rattle.rules.specs.declared.Answer.{Answer}
 use Rattle.rules.specs.declared.Plant.{Plant}
 use Rattle.rules.specs.declared.Refusal.{Refusal}
-use Rattle.rules.specs.Rulings.{Ruling, refused, granted, Outcome, outcomeOf, says, _or-refuse_then_, _grants_, if_then_else_}
+use Rattle.rules.specs.Rulings.{Ruling, refused, granted, Outcome, outcomeOf, _or-refuse_then_, _grants_, if_then_else_}
 use Rattle.rules.specs.Tables.{plantKeeps}
 use Rattle.kept.proofs.Plants.{Kept, unchanged}
 
@@ -15,9 +14,6 @@ Fine v plant x = Kept v plant (outcomeOf plant x .plant)
 module _ (v : ℕ → ℕ → Bool) (plant : Plant) (e : plantKeeps v plant ≡ true) where
   pub fine-refused : (r : Refusal) → Fine v plant (refused r)
   fine-refused r = unchanged v plant e
-
-  pub fine-same : (a : Answer) → Fine v plant (says a plant)
-  fine-same a = unchanged v plant e
 
   pub fine-then : (t : Bool) (r : Refusal) (x : Ruling Outcome) → (t ≡ true → Fine v plant x) → Fine v plant (t or-refuse r then x)
   fine-then true r x f = f refl

@@ -18,7 +18,7 @@ use Rattle.rules.specs.Limits.{devhandles, devinos}
 use Rattle.rules.specs.Kept.{cpuAt, queueAt, sourceAt, withSource, withQueue, withTail, withEnabled, withState, withTarget, withCookie}
 use Rattle.rules.specs.Rulings.{Ruling, refused, granted, Outcome, says, done, _or-refuse_then_, if_then_else_}
 use Rattle.rules.specs.Queues.{hasRoom, nextTail}
-use Rattle.rules.specs.Sources.{sysinoOf, found, get-enabled, set-enabled, get-state, set-state, get-target, set-target, get-cookie, set-cookie, intr-devino2sysino, intr, vintr, devMondo, received, deliverTo, deliver, raiseAt, raise}
+use Rattle.rules.specs.Sources.{sysinoOf, found, get-enabled, set-enabled, get-state, set-state, get-target, set-target, get-cookie, set-cookie, intr-devino2sysino, bySysino, byName, intr, vintr, devMondo, received, deliverTo, deliver, raiseAt, raise}
 use Rattle.rules.specs.Tables.{targetRight, cookieRight, enabledRight, sourceRight, plantKeeps}
 use Rattle.rules.proofs.Scan.{first-below}
 use Rattle.rules.proofs.Tests.{and-left, and-right}
@@ -215,7 +215,7 @@ module _ (v : ℕ → ℕ → Bool) (plant : Plant) (e : plantKeeps v plant ≡ 
       fine-grants v plant e (found EINVAL (sysinoOf plant devhandle devino)) (λ i. says (One i) plant) (λ i g. unchanged v plant e)
 
   pub intr-fine : (function sysino value : ℕ) → 1 ≤ plant .versions .interrupt → Fine v plant (intr plant function sysino value)
-  unfolding intr get-enabled get-state get-target
+  unfolding intr bySysino get-enabled get-state get-target
   intr-fine function sysino value m =
       let none : Ruling Outcome = refused EBADTRAP in
       let six : Ruling Outcome = if eqb function 0xa6 then set-target plant sysino value else none in
@@ -234,7 +234,7 @@ module _ (v : ℕ → ℕ → Bool) (plant : Plant) (e : plantKeeps v plant ≡ 
       fine-if v plant (eqb function 0xa6) (set-target plant sysino value) none (λ _. set-target-fine v plant e sysino l value) (λ _. unchanged v plant e)))))))
 
   pub vintr-fine : (function devhandle devino value : ℕ) → plant .versions .interrupt ≡ 2 → Fine v plant (vintr plant function devhandle devino value)
-  unfolding vintr get-cookie get-enabled get-state get-target
+  unfolding vintr byName get-cookie get-enabled get-state get-target
   vintr-fine function devhandle devino value two =
       fine-grants v plant e (found EINVAL (sysinoOf plant devhandle devino)) supported (λ i g.
       let l : i < plant .sources = found-there plant devhandle devino EINVAL i g in

@@ -93,10 +93,7 @@ module _ (es : List Extent) (b n : ℕ) (p : Place) where
   pub nowhere-valid : p ≡ located es b n → p ≡ Place.Nowhere → false ≡ valid es b n
   nowhere-valid e q = sym (valid-is es b n ∙ ap isAt (sym e ∙ q))
 
--- what a caller's test t of a range tells, of the range and of bytes that fill it
+-- what a caller's test t of a range tells
 module _ (es : List Extent) (b n : ℕ) (t : Bool) where
   pub valid-told : t ≡ valid es b n → t ≡ true → valid es b n ≡ true
   valid-told e p = sym e ∙ p
-
-  pub fill-told : (vs : List ℕ) → t ≡ valid es b n → t ≡ true → length vs ≡ n → valid es b (length vs) ≡ true
-  fill-told vs e p l = rw l (sym e ∙ p)

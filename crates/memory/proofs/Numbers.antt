@@ -4,8 +4,7 @@ use Prim.Native.Nat.{ℕ, zero, suc, _+_, _*_, _^_, _≤_, _<_}
 use native.Mathlib.Nat.{add-zero, add-suc, suc-add, pow-suc, pow-le-pow-right}
 use native.Mathlib.Omega.{arith}
 use native.Mathlib.Numerals.{add-one}
-use lib.ListN.{length}
-use Rattle.rules.specs.Real.{numberOf, wordBytes, bytesFrom}
+use Rattle.rules.specs.Real.{numberOf, bytesFrom}
 
 -- a byte more
 pub number-more : (f : ℕ → ℕ) (a i v b : ℕ) → v ≡ numberOf f a i → b ≡ f (a + i) → v * 256 + b ≡ numberOf f a (i + 1)
@@ -26,11 +25,6 @@ pub number-end : (f : ℕ → ℕ) (a i k v : ℕ) → v ≡ numberOf f a i → 
 number-end f a i k v p q h l =
     let e : i ≡ k = omega arith in
     rw (← e) (p, q)
-
--- a word has eight bytes
-pub word-length : (v : ℕ) → length (wordBytes v) ≡ 8
-unfolding wordBytes
-word-length v = refl
 
 -- numbers and runs are made of the same bytes wherever these are seen
 pub number-same : (f g : ℕ → ℕ) (a b k : ℕ) → ((j : ℕ) → j < k → f (a + j) ≡ g (b + j)) → numberOf f a k ≡ numberOf g b k

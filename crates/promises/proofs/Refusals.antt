@@ -29,7 +29,7 @@ use Rattle.rules.specs.Queues.{isQueue, forward, hasRoom, newRing, ringOf, base
 use Rattle.rules.specs.Mondo.{entryAt, entries, Sent, sendAll, sentAs, cpu-mondo-send}
 use Rattle.rules.specs.Tsb.{newTsbs, mmu-tsb-ctx0, mmu-tsb-ctxnon0}
 use Rattle.rules.specs.Memory.{wholePages, mem-scrub, mem-sync, wholeWord, store-word, load-word, newStatistics, setOrClear, mmustat-conf, mmustat-info}
-use Rattle.rules.specs.Sources.{found, sysinoOf, devMondo, deliver, deliverTo, get-enabled, set-enabled, get-state, set-state, get-target, set-target, get-cookie, set-cookie, intr-devino2sysino, intr, vintr, raiseAt, raise}
+use Rattle.rules.specs.Sources.{found, sysinoOf, devMondo, deliver, deliverTo, get-enabled, set-enabled, get-state, set-state, get-target, set-target, get-cookie, set-cookie, intr-devino2sysino, bySysino, byName, intr, vintr, raiseAt, raise}
 use Rattle.rules.specs.Calls.{functionOf, admitted, perform, call}
 use Rattle.rules.specs.Tables.{keepRules}
 use Rattle.rules.specs.Host.{HostOutcome, plantRule, ownerOf, longEnough, answeredBy, hostOutcomeOf, hostRule, hostEvent}
@@ -185,7 +185,7 @@ module _ (plant : Plant) (r : Refusal) where
   devino-still devhandle devino = still-grants (found EINVAL (sysinoOf plant devhandle devino)) _ (λ i. still-granted _ refl)
 
   intr-still : (function sysino value : ℕ) → Still (intr plant function sysino value)
-  unfolding intr get-enabled get-state get-target
+  unfolding intr bySysino get-enabled get-state get-target
   intr-still function sysino value =
       still-then (ltb sysino (plant .sources)) EINVAL _
       (still-if (eqb function 0xa1) _ _ (still-granted _ refl)
@@ -196,7 +196,7 @@ module _ (plant : Plant) (r : Refusal) where
       (still-if (eqb function 0xa6) _ _ (set-target-still sysino value) (still-refused EBADTRAP)))))))
 
   vintr-still : (function devhandle devino value : ℕ) → Still (vintr plant function devhandle devino value)
-  unfolding vintr get-cookie get-enabled get-state get-target
+  unfolding vintr byName get-cookie get-enabled get-state get-target
   vintr-still function devhandle devino value =
       still-grants (found EINVAL (sysinoOf plant devhandle devino)) _ (λ i.
       still-then (sourceAt plant i .cookies) ENOTSUPPORTED _

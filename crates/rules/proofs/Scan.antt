@@ -96,11 +96,6 @@ unfolding allBelow
 all-of p zero f = refl
 all-of p (suc n) f = rw (all-of p n (λ i h. f i (omega arith)), f n (omega arith))
 
-pub none-of : (p : ℕ → Bool) (n : ℕ) → ((i : ℕ) → i < n → p i ≡ false) → someBelow n p ≡ false
-unfolding someBelow
-none-of p zero f = refl
-none-of p (suc n) f = rw (none-of p n (λ i h. f i (omega arith)), f n (omega arith))
-
 -- the first number
 module _ (p : ℕ → Bool) where
   pub first-start : firstBelow 0 p ≡ Found.Nothing

@@ -1,6 +1,6 @@
 -- Laws of tests.
 use mathlib.Core.Path.{_≡_, refl, sym}
-use mathlib.Core.Bool.{Bool, true, false, _&&_, _||_, true≢false, false≢true}
+use mathlib.Core.Bool.{Bool, true, false, _&&_, false≢true}
 use Prim.Native.Nat.{ℕ, _≤_}
 use lib.Dec.{leb}
 use borrow.Author.Tests.{le-leb, leb-true}
@@ -13,15 +13,6 @@ and-left false t p = p
 pub and-right : (s t : Bool) → (s && t) ≡ true → t ≡ true
 and-right true t p = p
 and-right false t p = absurd (false≢true p)
-
--- the parts of a disjunction that does not
-pub or-left : (s t : Bool) → (s || t) ≡ false → s ≡ false
-or-left true t p = p
-or-left false t p = refl
-
-pub or-right : (s t : Bool) → (s || t) ≡ false → t ≡ false
-or-right true t p = absurd (true≢false p)
-or-right false t p = p
 
 -- two tests that say the same are the same
 pub bool-same : (s t : Bool) → (s ≡ true → t ≡ true) → (t ≡ true → s ≡ true) → s ≡ t

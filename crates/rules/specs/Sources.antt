@@ -72,23 +72,19 @@ intr-devino2sysino plant devhandle devino =
     found EINVAL (sysinoOf plant devhandle devino) grants λ i.
     says (One i) plant
 
--- 0xa1 to 0xa6 (sysino, value)
-unfoldable pub intr : Plant → ℕ → ℕ → ℕ → Ruling Outcome
-intr plant function sysino value =
-    ltb sysino (plant .sources) or-refuse EINVAL then
-    if eqb function 0xa1 then get-enabled plant sysino else
-    if eqb function 0xa2 then set-enabled plant sysino value else
-    if eqb function 0xa3 then get-state plant sysino else
-    if eqb function 0xa4 then set-state plant sysino value else
-    if eqb function 0xa5 then get-target plant sysino else
-    if eqb function 0xa6 then set-target plant sysino value else
+-- "get and set enabled, state, target", and for a source that has one its cookie: the function's number says which, of source i
+unfoldable pub bySysino : Plant → ℕ → ℕ → ℕ → Ruling Outcome
+bySysino plant function i value =
+    if eqb function 0xa1 then get-enabled plant i else
+    if eqb function 0xa2 then set-enabled plant i value else
+    if eqb function 0xa3 then get-state plant i else
+    if eqb function 0xa4 then set-state plant i value else
+    if eqb function 0xa5 then get-target plant i else
+    if eqb function 0xa6 then set-target plant i value else
     refused EBADTRAP
 
--- 0xa7 to 0xae (devhandle, devino, value): "no cookie support, ENOTSUPPORTED"
-unfoldable pub vintr : Plant → ℕ → ℕ → ℕ → ℕ → Ruling Outcome
-vintr plant function devhandle devino value =
-    found EINVAL (sysinoOf plant devhandle devino) grants λ i.
-    sourceAt plant i .cookies or-refuse ENOTSUPPORTED then
+unfoldable pub byName : Plant → ℕ → ℕ → ℕ → Ruling Outcome
+byName plant function i value =
     if eqb function 0xa7 then get-cookie plant i else
     if eqb function 0xa8 then set-cookie plant i value else
     if eqb function 0xa9 then get-enabled plant i else
@@ -98,6 +94,19 @@ vintr plant function devhandle devino value =
     if eqb function 0xad then get-target plant i else
     if eqb function 0xae then set-target plant i value else
     refused EBADTRAP
+
+-- 0xa1 to 0xa6 (sysino, value): "source not the caller's EINVAL"
+unfoldable pub intr : Plant → ℕ → ℕ → ℕ → Ruling Outcome
+intr plant function sysino value =
+    ltb sysino (plant .sources) or-refuse EINVAL then
+    bySysino plant function sysino value
+
+-- 0xa7 to 0xae (devhandle, devino, value): "0xa7 up, no cookie support, ENOTSUPPORTED"
+unfoldable pub vintr : Plant → ℕ → ℕ → ℕ → ℕ → Ruling Outcome
+vintr plant function devhandle devino value =
+    found EINVAL (sysinoOf plant devhandle devino) grants λ i.
+    sourceAt plant i .cookies or-refuse ENOTSUPPORTED then
+    byName plant function i value
 
 -- the 0x3d ring of a cpu
 abbrev pub devMondo : ℕ

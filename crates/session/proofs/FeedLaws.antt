@@ -168,10 +168,6 @@ module _ (start : Progress) (piece before memory₀ : List ℕ) (n : ℕ) (table
         feeding-drop start (take n piece) before tables memory line held count i out f inside b byte o l,
       )
 
-    -- there is room for a reply
-    pub reply-room : count + 96 ≤ length out
-    reply-room = omega (arith, s .printed, s .wide, s .out-long)
-
     module _ (o : b ≡ lineFeed) (reply : Reply) (tables′ : Tables) (memory′ : List ℕ) (k : length memory′ ≡ length memory)
         (a : answered (record { tables = tables; memory = memory }) (parse (take held line)) ≡ record { session = record { tables = tables′; memory = memory′ }; text = says reply })
         (r : ℕ) (out′ : List ℕ) (w : (r ≡ count + length (replyText reply)) × (out′ ≡ sets out count (replyText reply))) where

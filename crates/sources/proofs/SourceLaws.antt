@@ -14,8 +14,8 @@ use Rattle.rules.specs.declared.Answer.{Answer}
 use Rattle.rules.specs.declared.Answer.the-variants.{One}
 use Rattle.rules.specs.Image.{named}
 use Rattle.rules.specs.Kept.{sourceAt, withSource, withEnabled, withState, withTarget, withCookie}
-use Rattle.rules.specs.Rulings.{Ruling, refused, Outcome, outcomeOf, says, done, if_then_else_}
-use Rattle.rules.specs.Sources.{sysinoOf, targetNumber, get-enabled, set-enabled, get-state, set-state, get-target, set-target, get-cookie, set-cookie, intr-devino2sysino, intr, vintr}
+use Rattle.rules.specs.Rulings.{refused, outcomeOf, says, done}
+use Rattle.rules.specs.Sources.{sysinoOf, targetNumber, set-enabled, set-state, get-target, set-target, set-cookie, intr-devino2sysino, bySysino, byName, intr, vintr}
 use Rattle.rules.proofs.Scan.{first-below}
 use Rattle.plants.specs.declared.change.Change.{Change}
 use Rattle.plants.specs.declared.change.Done.{Done}
@@ -110,29 +110,6 @@ module _ (version cookie value : ℕ) where
     pub cookie-none : version ≡ 2 → eqb cookie 0 ≡ (eqb value 1 && (eqb version 2 && eqb cookie 0))
     cookie-none b = rw (eq-eqb _ _ a, eq-eqb _ _ b)
 
--- 0xa1 to 0xa6 once the sysino is right, and 0xa7 to 0xae once the source is found
-unfoldable pub bySysino : Plant → ℕ → ℕ → ℕ → Ruling Outcome
-bySysino plant function i value =
-    if eqb function 0xa1 then get-enabled plant i else
-    if eqb function 0xa2 then set-enabled plant i value else
-    if eqb function 0xa3 then get-state plant i else
-    if eqb function 0xa4 then set-state plant i value else
-    if eqb function 0xa5 then get-target plant i else
-    if eqb function 0xa6 then set-target plant i value else
-    refused EBADTRAP
-
-unfoldable pub byName : Plant → ℕ → ℕ → ℕ → Ruling Outcome
-byName plant function i value =
-    if eqb function 0xa7 then get-cookie plant i else
-    if eqb function 0xa8 then set-cookie plant i value else
-    if eqb function 0xa9 then get-enabled plant i else
-    if eqb function 0xaa then set-enabled plant i value else
-    if eqb function 0xab then get-state plant i else
-    if eqb function 0xac then set-state plant i value else
-    if eqb function 0xad then get-target plant i else
-    if eqb function 0xae then set-target plant i value else
-    refused EBADTRAP
-
 -- The rule at the number k of the function, where it computes: d is what the function's own call gave, or what was made of its
 -- answer a.
 module _ (plant : Plant) (function sysino value : ℕ) where
@@ -149,7 +126,7 @@ module _ (plant : Plant) (function sysino value : ℕ) where
     intr-told d a k e f g = intr-at d k e (tells plant (bySysino plant k sysino value) d a f g)
 
     pub intr-other : (function ≡ 0xa1 → ⊥) → (function ≡ 0xa2 → ⊥) → (function ≡ 0xa3 → ⊥) → (function ≡ 0xa4 → ⊥) → (function ≡ 0xa5 → ⊥) → (function ≡ 0xa6 → ⊥) → intr plant function sysino value ≡ refused EBADTRAP
-    unfolding intr
+    unfolding intr bySysino
     intr-other a b c d e f = rw (lt-ltb sysino (plant .sources) h, ne-eqb _ _ a, ne-eqb _ _ b, ne-eqb _ _ c, ne-eqb _ _ d, ne-eqb _ _ e, ne-eqb _ _ f)
 
 module _ (plant : Plant) (function devhandle devino value : ℕ) (s : Found) (p : s ≡ sysinoOf plant devhandle devino) where
@@ -171,5 +148,5 @@ module _ (plant : Plant) (function devhandle devino value : ℕ) (s : Found) (p 
       vintr-told d a k e f g = vintr-at d k e (tells plant (byName plant k i value) d a f g)
 
       pub vintr-other : (function ≡ 0xa7 → ⊥) → (function ≡ 0xa8 → ⊥) → (function ≡ 0xa9 → ⊥) → (function ≡ 0xaa → ⊥) → (function ≡ 0xab → ⊥) → (function ≡ 0xac → ⊥) → (function ≡ 0xad → ⊥) → (function ≡ 0xae → ⊥) → vintr plant function devhandle devino value ≡ refused EBADTRAP
-      unfolding vintr
+      unfolding vintr byName
       vintr-other a b c d e f g j = rw (← p, q, not-false (sourceAt plant i .cookies) h, ne-eqb _ _ a, ne-eqb _ _ b, ne-eqb _ _ c, ne-eqb _ _ d, ne-eqb _ _ e, ne-eqb _ _ f, ne-eqb _ _ g, ne-eqb _ _ j)

@@ -1,5 +1,4 @@
 pub mod Every
-pub mod Sources
 pub mod SettingLaws
 pub mod SoundTables
 pub mod KeepLaws

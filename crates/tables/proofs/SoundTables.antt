@@ -46,10 +46,6 @@ module _ (tables : Tables) (keep : keepRules tables ≡ true) where
   unfolding keepRules
   pages-apart = not-true _ (and-left (not (pagesShared tables)) (not (sourceTwice tables)) (and-right guests _ keep))
 
-  pub sources-apart : sourceTwice tables ≡ false
-  unfolding keepRules
-  sources-apart = not-true _ (and-right (not (pagesShared tables)) (not (sourceTwice tables)) (and-right guests _ keep))
-
   module _ (g : ℕ) (there : g < tables .guests) where
     keeps : guestKeeps (guestAt tables g) ≡ true
     keeps = list-there _ _ _ _ guests-right g there

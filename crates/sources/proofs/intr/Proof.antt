@@ -1,7 +1,8 @@
 -- `sources::intr` meets its contract: at each number of the function the rule computes to what was called.
 use borrow.Author.Needs.{needs}
 use Rattle.plants.proofs.OutcomeLaws.{tells-refusal}
-use Rattle.sources.proofs.SourceLaws.{intr-past, bySysino, intr-at, intr-told, intr-other}
+use Rattle.rules.specs.Sources.{bySysino}
+use Rattle.sources.proofs.SourceLaws.{intr-past, intr-at, intr-told, intr-other}
 use Rattle.sources.proofs.intr.Statement.{statement}
 use Rattle.sources.proofs.intr.Tie as tie
 

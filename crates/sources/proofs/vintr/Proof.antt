@@ -3,7 +3,8 @@ use Prim.Native.Nat.{_<_}
 use native.Mathlib.Omega.{arith}
 use borrow.Author.Needs.{needs}
 use Rattle.plants.proofs.OutcomeLaws.{tells-refusal}
-use Rattle.sources.proofs.SourceLaws.{vintr-missing, found-below, vintr-cookieless, byName, vintr-at, vintr-told, vintr-other}
+use Rattle.rules.specs.Sources.{byName}
+use Rattle.sources.proofs.SourceLaws.{vintr-missing, found-below, vintr-cookieless, vintr-at, vintr-told, vintr-other}
 use Rattle.sources.proofs.vintr.Statement.{statement}
 use Rattle.sources.proofs.vintr.Tie as tie
 
