@@ -72,7 +72,7 @@ intr-devino2sysino plant devhandle devino =
     found EINVAL (sysinoOf plant devhandle devino) grants λ i.
     says (One i) plant
 
--- "get and set enabled, state, target", and for a source that has one its cookie: the function's number says which, of source i
+-- "get and set enabled .., state .., target; 0xa7, 0xa8 get and set the cookie": which of them a function's number is, of source i
 unfoldable pub bySysino : Plant → ℕ → ℕ → ℕ → Ruling Outcome
 bySysino plant function i value =
     if eqb function 0xa1 then get-enabled plant i else
