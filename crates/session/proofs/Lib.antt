@@ -2,5 +2,6 @@ pub mod Answers
 pub mod AskLaws
 pub mod FeedLaws
 pub mod Fits
+pub mod InParts
 pub mod ReplyLaws
 pub mod Whole

@@ -12,12 +12,10 @@ use Rattle.rules.specs.Rulings.{if_then_else_}
 use Rattle.rules.specs.Text.{parse, lineFeed}
 use Rattle.rules.specs.Session.{Printed, begin, answered, linesFrom, printed, output}
 use Rattle.session.specs.declared.feeder.Feeder.{Feeder}
-use Rattle.session.specs.Feeding.{Progress, ended, pushed, next, fed, room, taken-up, feedOf, atFirst, ending, lineLimit}
+use Rattle.session.specs.Feeding.{Progress, ended, pushed, next, fed, room, taken-up, feedOf, atFirst, ending, unprinted, lineLimit}
+use Rattle.session.proofs.InParts.{prefixed, fed-prefixed, fed-append, fed-held, kept, taken-again}
 
 -- The program's way through its input: each piece is fed to what the one before left, and then the end.
-abbrev pub kept : Progress → Feeder
-kept p = record { tables = p .session .tables; line = p .line; held = p .held }
-
 unfoldable pub inPieces : List ℕ → Feeder → List ℕ → List (List ℕ) → List ℕ
 inPieces out feeder memory [] = feedOf feeder memory (ending (feeder .held)) out .text
 inPieces out feeder memory (piece ∷ pieces) =
@@ -139,53 +137,6 @@ rest-prints [] p [] h = end-none p (h .count)
 rest-prints [] p (c ∷ cs) h = end-line p c cs h
 rest-prints (b ∷ bs) p line h = step-prints b bs p line h (λ q l k. rest-prints bs q l k)
 
--- A feeder that has printed something does what it would have done without.
-abbrev prefixed : List ℕ → Progress → Progress
-prefixed t p = record { session = p .session; line = p .line; held = p .held; text = t ++ p .text }
-
-abbrev cleared : Progress → Progress
-cleared p = record { session = p .session; line = p .line; held = p .held; text = [] }
-
-next-prefixed : (t : List ℕ) (p : Progress) (b : ℕ) → next (prefixed t p) b ≡ prefixed t (next p b)
-unfolding next
-next-prefixed t p b = go (eqb b lineFeed) (ltb (p .held) lineLimit)
-  where
-    one : Printed
-    one = answered (p .session) (parse (take (p .held) (p .line)))
-
-    go : (x y : Bool) → (if x then ended (prefixed t p) one else if y then pushed (prefixed t p) b else prefixed t p) ≡ prefixed t (if x then ended p one else if y then pushed p b else p)
-    go true y = λ i. record { session = one .session; line = p .line; held = 0; text = append-assoc t (p .text) (one .text ++ (lineFeed ∷ [])) i }
-    go false true = refl
-    go false false = refl
-
-fed-prefixed : (bs t : List ℕ) (p : Progress) → fed (prefixed t p) bs ≡ prefixed t (fed p bs)
-unfolding fed
-fed-prefixed [] t p = refl
-fed-prefixed (b ∷ bs) t p = ap (λ (q : Progress). fed q bs) (next-prefixed t p b) ∙ fed-prefixed bs t (next p b)
-
-fed-append : (xs ys : List ℕ) (p : Progress) → fed p (xs ++ ys) ≡ fed (fed p xs) ys
-unfolding fed
-fed-append [] ys p = refl
-fed-append (x ∷ xs) ys p = fed-append xs ys (next p x)
-
--- no more of a line is held than is kept of one
-next-held : (p : Progress) (b : ℕ) → p .held ≤ lineLimit → next p b .held ≤ lineLimit
-unfolding next
-next-held p b h = go (eqb b lineFeed) (ltb (p .held) lineLimit) refl
-  where
-    one : Printed
-    one = answered (p .session) (parse (take (p .held) (p .line)))
-
-    go : (x y : Bool) → ltb (p .held) lineLimit ≡ y → (if x then ended p one else if y then pushed p b else p) .held ≤ lineLimit
-    go true y e = omega arith
-    go false true e = omega (arith, ltb-true (p .held) lineLimit e)
-    go false false e = h
-
-fed-held : (bs : List ℕ) (p : Progress) → p .held ≤ lineLimit → fed p bs .held ≤ lineLimit
-unfolding fed
-fed-held [] p h = h
-fed-held (b ∷ bs) p h = fed-held bs (next p b) (next-held p b h)
-
 -- a piece that has room is taken whole
 taken-whole : (feeder : Feeder) (memory piece out : List ℕ) → 96 * length piece ≤ length out → feedOf feeder memory piece out ≡ fed (taken-up feeder memory) piece
 unfolding feedOf
@@ -196,18 +147,12 @@ unfolding ending
 ending-short zero = omega arith
 ending-short (suc n) = omega arith
 
--- what is kept of a piece is what the next one starts from
-taken-again : (p : Progress) → p .held ≤ lineLimit → taken-up (kept p) (p .session .memory) ≡ cleared p
-taken-again p h =
-    let e : min (p .held) lineLimit ≡ p .held = omega arith in
-    λ i. record { session = p .session; line = p .line; held = e i; text = [] }
-
 -- the text before is in front of what is printed
-in-front : (p : Progress) (bs : List ℕ) → p .text ++ finished (fed (cleared p) bs) .text ≡ finished (fed p bs) .text
+in-front : (p : Progress) (bs : List ℕ) → p .text ++ finished (fed (unprinted p) bs) .text ≡ finished (fed p bs) .text
 in-front p bs =
-    let q : Progress = fed (cleared p) bs in
-    let same : prefixed (p .text) (cleared p) ≡ p = λ i. record { session = p .session; line = p .line; held = p .held; text = append-nil (p .text) i } in
-    let all : prefixed (p .text) q ≡ fed p bs = sym (fed-prefixed bs (p .text) (cleared p)) ∙ ap (λ (x : Progress). fed x bs) same in
+    let q : Progress = fed (unprinted p) bs in
+    let same : prefixed (p .text) (unprinted p) ≡ p = λ i. record { session = p .session; line = p .line; held = p .held; text = append-nil (p .text) i } in
+    let all : prefixed (p .text) q ≡ fed p bs = sym (fed-prefixed bs (p .text) (unprinted p)) ∙ ap (λ (x : Progress). fed x bs) same in
     ap (λ (x : Progress). x .text) (sym (fed-prefixed (ending (q .held)) (p .text) q)) ∙ ap (λ (x : Progress). finished x .text) all
 
 module _ (out : List ℕ) where
@@ -226,7 +171,7 @@ module _ (out : List ℕ) where
     first : part .text ++ inPieces out (kept part) (part .session .memory) pieces ≡ whole .text ++ inPieces out (kept whole) (whole .session .memory) pieces
     first = ap (λ (p : Progress). p .text ++ inPieces out (kept p) (p .session .memory) pieces) (taken-whole feeder memory piece out r)
 
-    behind : inPieces out (kept whole) (whole .session .memory) pieces ≡ finished (fed (cleared whole) left) .text
+    behind : inPieces out (kept whole) (whole .session .memory) pieces ≡ finished (fed (unprinted whole) left) .text
     behind = rest (kept whole) (whole .session .memory) few ∙ ap (λ (p : Progress). finished (fed p left) .text) (taken-again whole few)
 
     piece-prints : part .text ++ inPieces out (kept part) (part .session .memory) pieces ≡ finished (fed (taken-up feeder memory) (piece ++ left)) .text

@@ -49,6 +49,14 @@ room piece out = min (length piece) (length out / 96)
 abbrev pub taken-up : Feeder → List ℕ → Progress
 taken-up feeder memory = record { session = record { tables = feeder .tables; memory = memory }; line = feeder .line; held = min (feeder .held) lineLimit; text = [] }
 
+-- the same but for what was printed: all that the next byte finds
+abbrev pub unprinted : Progress → Progress
+unprinted p = record { session = p .session; line = p .line; held = p .held; text = [] }
+
+-- no byte of a piece is lost: what the next byte finds is what it finds after all of them
+abbrev pub AllFed : Feeder → List ℕ → List ℕ → Feeder → List ℕ → Type 0
+AllFed feeder memory piece after memory′ = taken-up after memory′ ≡ unprinted (fed (taken-up feeder memory) piece)
+
 unfoldable pub feedOf : Feeder → List ℕ → List ℕ → List ℕ → Progress
 feedOf feeder memory piece out = fed (taken-up feeder memory) (take (room piece out) piece)
 

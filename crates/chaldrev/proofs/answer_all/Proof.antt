@@ -1,6 +1,5 @@
--- `chaldrev::answer_all` is safe, and ends.
+-- `chaldrev::answer_all` is safe, and ends: the turns that are left fall.
 use mathlib.Core.Path.{_≡_, refl}
-use Prim.{tt}
 use lib.ListN.{length}
 use native.Mathlib.Omega.{arith}
 use borrow.Author.Needs.{needs}
@@ -8,10 +7,10 @@ use Rattle.chaldrev.proofs.answer_all.Statement.{statement}
 use Rattle.chaldrev.proofs.answer_all.Tie as tie
 
 abbrev Inv-loop : tie.InvT-loop
-Inv-loop mem₀ input₀ out₀ feeder₀ on₀ turns₀ mem input out feeder on turns = (length mem ≡ length mem₀) × (length input ≡ length input₀) × (length out ≡ length out₀)
+Inv-loop mem₀ input₀ out₀ feeder₀ turns₀ mem input out feeder turns = (length mem ≡ length mem₀) × (length input ≡ length input₀) × (length out ≡ length out₀)
 
 abbrev μ-loop : tie.MeasureT-loop
-μ-loop mem₀ input₀ out₀ feeder₀ on₀ turns₀ mem input out feeder on turns = turns
+μ-loop mem₀ input₀ out₀ feeder₀ turns₀ mem input out feeder turns = turns
 
 begin-requires : tie.Need-begin-requires Inv-loop μ-loop
 begin-requires c κs = search needs
@@ -25,11 +24,20 @@ sub-turns c = omega arith
 answer-some-requires : tie.Need-answer-some-requires Inv-loop μ-loop
 answer-some-requires c κs = search needs
 
+enum-told : tie.Need-enum-told Inv-loop μ-loop
+enum-told c = search needs
+
 loop-less : tie.Need-loop-less Inv-loop μ-loop
 loop-less c = omega arith
 
 loop-again : tie.Need-loop-again Inv-loop μ-loop
 loop-again c = search needs
+
+enum-told-2 : tie.Need-enum-told-2 Inv-loop μ-loop
+enum-told-2 c = search needs
+
+answer-last-requires : tie.Need-answer-last-requires Inv-loop μ-loop
+answer-last-requires c κs = search needs
 
 same-length : tie.Need-same-length Inv-loop μ-loop
 same-length c = search needs
@@ -41,7 +49,10 @@ same-length-3 : tie.Need-same-length-3 Inv-loop μ-loop
 same-length-3 c = search needs
 
 returns : tie.Need-returns Inv-loop μ-loop
-returns c = tt
+returns c = search needs
+
+enum-told-3 : tie.Need-enum-told-3 Inv-loop μ-loop
+enum-told-3 c = search needs
 
 same-length-4 : tie.Need-same-length-4 Inv-loop μ-loop
 same-length-4 c = search needs
@@ -53,7 +64,19 @@ same-length-6 : tie.Need-same-length-6 Inv-loop μ-loop
 same-length-6 c = search needs
 
 returns-2 : tie.Need-returns-2 Inv-loop μ-loop
-returns-2 c = tt
+returns-2 c = search needs
+
+same-length-7 : tie.Need-same-length-7 Inv-loop μ-loop
+same-length-7 c = search needs
+
+same-length-8 : tie.Need-same-length-8 Inv-loop μ-loop
+same-length-8 c = search needs
+
+same-length-9 : tie.Need-same-length-9 Inv-loop μ-loop
+same-length-9 c = search needs
+
+returns-3 : tie.Need-returns-3 Inv-loop μ-loop
+returns-3 c = search needs
 
 pub answer-all-spec : {M : Type 1} → statement M
 answer-all-spec =
@@ -65,13 +88,21 @@ answer-all-spec =
     loop-holds
     sub-turns
     answer-some-requires
+    enum-told
     loop-less
     loop-again
+    enum-told-2
+    answer-last-requires
     same-length
     same-length-2
     same-length-3
     returns
+    enum-told-3
     same-length-4
     same-length-5
     same-length-6
-    returns-2)
+    returns-2
+    same-length-7
+    same-length-8
+    same-length-9
+    returns-3)

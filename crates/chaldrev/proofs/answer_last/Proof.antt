@@ -7,14 +7,14 @@ use Rattle.chaldrev.proofs.answer_last.Tie as tie
 finish-requires : tie.Need-finish-requires
 finish-requires c κs = search needs
 
-slice-reshare-prefix-write-all : tie.Need-slice-reshare-prefix-write-all
-slice-reshare-prefix-write-all c = written-fits _ _ _ _ _ _ _ _ (c .before .before .before .before .finish .ensures)
+slice-reshare-prefix-write-answers : tie.Need-slice-reshare-prefix-write-answers
+slice-reshare-prefix-write-answers c = written-fits _ _ _ _ _ _ _ _ (c .before .before .before .before .finish .ensures)
 
-slice-aggregate-write-all : tie.Need-slice-aggregate-write-all
-slice-aggregate-write-all c = written-taken _ _ _ _ _ _ _ _ (c .before .before .before .before .before .finish .ensures)
+slice-aggregate-write-answers : tie.Need-slice-aggregate-write-answers
+slice-aggregate-write-answers c = written-taken _ _ _ _ _ _ _ _ (c .before .before .before .before .before .finish .ensures)
 
-write-all-requires : tie.Need-write-all-requires
-write-all-requires c κs = search needs
+write-answers-requires : tie.Need-write-answers-requires
+write-answers-requires c κs = search needs
 
 same-length : tie.Need-same-length
 same-length c = search needs
@@ -30,9 +30,9 @@ answer-last-spec =
     tie.close
     (tie.spec
     finish-requires
-    slice-reshare-prefix-write-all
-    slice-aggregate-write-all
-    write-all-requires
+    slice-reshare-prefix-write-answers
+    slice-aggregate-write-answers
+    write-answers-requires
     same-length
     same-length-2
     returns)
