@@ -17,14 +17,8 @@ pub(crate) fn filled() -> [u8; MEMORY]
 
 // Copies as much as there is in both.
 fn copy(from: &[u8], to: &mut [u8]) {
-    let mut i = 0;
-    while i < from.len() {
-        if to.len() <= i {
-            return;
-        }
-        to[i] = from[i];
-        i += 1;
-    }
+    let n = memory::least(from.len(), to.len());
+    memory::write(to, 0, &from[..n]);
 }
 
 // Compares as much as there is in both.

@@ -18,6 +18,7 @@ use crate::say::say_numbers;
 use rules::Device;
 use rules::Event;
 use rules::Loaded;
+use rules::StoreAt;
 use rules::Tables;
 use text::Line;
 
@@ -26,6 +27,12 @@ pub struct Bench {
     pub tables: Tables,
     pub draft: Tables,
     pub lent: usize,
+}
+
+// What a line behind `also ` or `hand ` has to be.
+enum Store {
+    None,
+    At(StoreAt),
 }
 
 // No guest, and all of memory.
@@ -180,12 +187,21 @@ fn run_plain(bench: Bench, mem: &mut [u8], line: &[u8]) -> Bench {
     }
 }
 
-// Behind `also `: a field of the draft is set.
-fn run_also(bench: Bench, line: &[u8]) -> Bench {
+// The store that a line is, if it is one.
+fn store_of(line: &[u8]) -> Store {
     let Line::Event(event) = text::parse_line(line) else {
-        return bad(bench);
+        return Store::None;
     };
     let Event::Store(to) = event else {
+        return Store::None;
+    };
+    Store::At(to)
+}
+
+// Behind `also `: a field of the draft is set.
+fn run_also(bench: Bench, line: &[u8]) -> Bench {
+    let store = store_of(line);
+    let Store::At(to) = store else {
         return bad(bench);
     };
     let draft = bench.draft;
@@ -195,10 +211,8 @@ fn run_also(bench: Bench, line: &[u8]) -> Bench {
 
 // Behind `hand `: a field of the draft is set, and device 100 raises its interrupt on it.
 fn run_hand(bench: Bench, mem: &mut [u8], line: &[u8]) -> Bench {
-    let Line::Event(event) = text::parse_line(line) else {
-        return bad(bench);
-    };
-    let Event::Store(to) = event else {
+    let store = store_of(line);
+    let Store::At(to) = store else {
         return bad(bench);
     };
     let draft = bench.draft;

@@ -6,8 +6,8 @@ ghost use Rattle.rules.specs.Kept.{blankExtent, blankSource};
 ghost use Rattle.rules.specs.Rulings.{refused};
 ghost use Rattle.rules.specs.Image.{countAt, readExtent, extentBits, readSource, sourceBits, filled, readLists, readGuest};
 ghost use Rattle.image.specs.Answers.{there, countAs, guestAs};
-use crate::blank;
 use bits::Field;
+use records::blank;
 use rules::CPUS;
 use rules::EXTENTS;
 use rules::Extent;
@@ -17,7 +17,6 @@ use rules::Plant;
 use rules::Refusal;
 use rules::SOURCES;
 use rules::Source;
-use rules::Target;
 
 // An extent is 28 + 16 + 16 bits, and a source 28 + 7 + 1.
 const EXTENT_BITS: u64 = 60;
@@ -76,15 +75,11 @@ fn read_source(s: &[u8], at: u64) -> Source
     requires { ⌜ there (now s) (at + sourceBits) ⌝ }
     ensures { λ r. ⌜ r ≡ readSource (now (s .entry)) at ⌝ }
 {
-    Source {
-        devhandle: bits::number_at(s, at, 28),
-        devino: bits::number_at(s, at + 28, 7) as u8,
-        cookies: bits::number_at(s, at + 35, 1) == 1,
-        enabled: 0,
-        state: 0,
-        target: Target::Unset,
-        cookie: 0,
-    }
+    let mut source = blank::source();
+    source.devhandle = bits::number_at(s, at, 28);
+    source.devino = bits::number_at(s, at + 28, 7) as u8;
+    source.cookies = bits::number_at(s, at + 35, 1) == 1;
+    source
 }
 
 // The k extents from bit `at` on.

@@ -1,5 +1,4 @@
 // The partition image: from bytes to tables.
-mod blank;
 mod fill;
 mod guest;
 
@@ -9,6 +8,7 @@ ghost use Rattle.rules.specs.Image.{judged, loadedAs, load};
 ghost use Rattle.image.specs.Answers.{headerOf, fieldsOf, countAs, readAs};
 use guest::Count;
 use guest::Verdict;
+use records::blank;
 use rules::Answer;
 use rules::GUESTS;
 use rules::Loaded;

@@ -1,9 +1,12 @@
 // A guest's memory through its extents: which ranges are its own, where they lie on the host, and what is read and
 // written there.
+mod bounds;
 mod extents;
 mod guest;
 mod runs;
 
+pub use bounds::greatest;
+pub use bounds::least;
 pub use extents::inside;
 pub use extents::locate;
 pub use extents::range_valid;

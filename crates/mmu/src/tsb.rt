@@ -4,12 +4,12 @@ use plants::CpuChange;
 use plants::Done;
 use plants::told;
 use records::Verdict;
+use records::blank;
 use rules::Answer;
 use rules::CPUS;
 use rules::Extents;
 use rules::Real;
 use rules::Refusal;
-use rules::TSBS;
 use rules::Tsb;
 use rules::TsbList;
 ghost use mathlib.Core.Path.{_≡_};
@@ -51,27 +51,14 @@ fn descriptor_at(extents: Extents, mem: &[u8], real: Real) -> Tsb
     }
 }
 
-// The places of a list with nothing in them.
-fn blank_tsbs() -> [Tsb; TSBS]
-    ensures { λ r. ⌜ r ≡ blankTsbs .list ⌝ }
-{
-    [Tsb {
-        index: 0,
-        associativity: 0,
-        entries: 0,
-        context: 0,
-        mask: 0,
-        base: 0,
-    }; TSBS]
-}
-
 // A verdict beside a blank list.
 fn no_tsbs(verdict: Verdict) -> NewTsbs
     ensures { λ r. ⌜ r ≡ record { verdict = verdict; tsbs = blankTsbs } ⌝ }
 {
-    let list = blank_tsbs();
-    let tsbs = TsbList { count: 0, list };
-    NewTsbs { verdict, tsbs }
+    NewTsbs {
+        verdict,
+        tsbs: blank::tsbs(),
+    }
 }
 
 // The descriptors from pointer on: the first bad one decides.
@@ -81,7 +68,8 @@ fn read_tsbs(extents: Extents, mem: &[u8], count: u8, pointer: u64) -> NewTsbs
     requires { ⌜ valid (present extents) pointer (32 * count) ≡ true ⌝ }
     ensures { λ r. ⌜ listed (sightOf (present extents) (now (mem .entry))) pointer count ≡ judged (r .verdict) (granted (r .tsbs)) ⌝ }
 {
-    let mut list = blank_tsbs();
+    let none = blank::tsbs();
+    let mut list = none.list;
     let mut i = 0;
     while i < count {
         let at = pointer + 32 * (i as u64);

@@ -1,12 +1,14 @@
 // The image's rules that are tried after the last field, over tables. Each is a test with no condition on what it is given.
 ghost use mathlib.Core.Path.{_≡_};
-ghost use Prim.Native.Nat.{min, max};
 ghost use lib.ListN.{getD};
 ghost use Rattle.rules.specs.Scan.{allBelow};
 ghost use Rattle.rules.specs.Kept.{blankExtent, guestAt};
 ghost use Rattle.rules.specs.Image.{extentRight, extentsRight, ascend, share, pagesShared, sourceTwice};
 ghost use Rattle.partition.specs.Collected.{runsOf, namesOf, alike};
 ghost use Rattle.partition.specs.Rules.{holdsAt, holds, allHold};
+use memory::greatest;
+use memory::least;
+use records::blank;
 use rules::EXTENTS;
 use rules::Extent;
 use rules::Extents;
@@ -38,18 +40,6 @@ struct Name {
     devino: u8,
 }
 
-fn least(a: usize, b: usize) -> usize
-    ensures { λ r. ⌜ r ≡ min a b ⌝ }
-{
-    if a < b { a } else { b }
-}
-
-fn greatest(a: usize, b: usize) -> usize
-    ensures { λ r. ⌜ r ≡ max a b ⌝ }
-{
-    if a < b { b } else { a }
-}
-
 pub fn extent_right(x: Extent) -> bool
     ensures { λ r. ⌜ r ≡ extentRight x ⌝ }
 {
@@ -64,11 +54,7 @@ fn extent_at(list: [Extent; EXTENTS], i: usize) -> Extent
     if i < EXTENTS {
         return list[i];
     }
-    Extent {
-        real: 0,
-        count: 0,
-        host: 0,
-    }
+    blank::extent()
 }
 
 fn holds_at(rule: Rule, list: [Extent; EXTENTS], i: usize) -> bool
@@ -150,11 +136,7 @@ pub fn runs(t: Tables) -> [Extent; RUNS]
     ensures { λ r. ⌜ r ≡ runsOf t ⌝ }
 {
     let guest = t.guest;
-    let mut runs = [Extent {
-        real: 0,
-        count: 0,
-        host: 0,
-    }; RUNS];
+    let mut runs = [blank::extent(); RUNS];
     let mut k = 0;
     while k < RUNS {
         let at = guest[k / EXTENTS];

@@ -9,7 +9,7 @@ use Rattle.rules.specs.declared.Extents.{Extents}
 use Rattle.rules.specs.declared.Plant.{Plant}
 use Rattle.rules.specs.declared.QueueRecord.{QueueRecord}
 use Rattle.rules.specs.declared.Ring.{Ring}
-use Rattle.rules.specs.Kept.{blankQueue, hollowCpu, cpuAt, queueAt, withCpu, cpuWithQueue, withQueue}
+use Rattle.rules.specs.Kept.{blankQueue, hollowCpu, cpuAt, queueAt, withCpu, cpuWithQueue, withQueue, withTail}
 use Rattle.rules.specs.Real.{valid, apply}
 use Rattle.rules.specs.Queues.{nextTail, hasRoom}
 use Rattle.rules.specs.Mondo.{Sent}
@@ -34,10 +34,10 @@ module _ (extents : Extents) (held : QueueRecord) (m entry : List ℕ) where
     unfolding putIn hasRoom apply
     put-full h = rw (e, eq-eqb (nextTail ring) (ring .head) (sym p ∙ h)) (record { held = refl; room = refl; memory = refl })
 
-    pub put-done : (m′ : List ℕ) → (t ≡ ring .head → ⊥) → m′ ≡ apply (present extents) m (one (ring .base + ring .tail) entry)
-        → PutsIn extents (putIn held entry) m (record { held = QueueRecord.Set (record { base = ring .base; size = ring .size; head = ring .head; tail = t }); room = true }) m′
+    pub put-done : (m′ : List ℕ) (moved : Ring) → (t ≡ ring .head → ⊥) → m′ ≡ apply (present extents) m (one (ring .base + ring .tail) entry) → moved ≡ withTail ring t
+        → PutsIn extents (putIn held entry) m (record { held = QueueRecord.Set moved; room = true }) m′
     unfolding putIn hasRoom
-    put-done m′ h w = rw (e, ne-eqb (nextTail ring) (ring .head) (λ z. h (p ∙ z))) (record { held = rw p refl; room = refl; memory = w })
+    put-done m′ moved h w q = rw (e, ne-eqb (nextTail ring) (ring .head) (λ z. h (p ∙ z))) (record { held = rw (q, p) refl; room = refl; memory = w })
 
 -- a record put back where it was found changes nothing
 same-queue : (plant : Plant) (cpu q : ℕ) → withQueue plant cpu q (queueAt (cpuAt plant cpu) q) ≡ plant

@@ -37,6 +37,6 @@ pub tail-unset : (held : QueueRecord) (tail : ℕ) → held ≡ QueueRecord.Unse
 unfolding atTail
 tail-unset held tail e = rw e
 
-pub tail-set : (held : QueueRecord) (tail : ℕ) (ring : Ring) → held ≡ QueueRecord.Set ring → QueueRecord.Set (withTail ring tail) ≡ atTail held tail
+pub tail-set : (held : QueueRecord) (tail : ℕ) (ring next : Ring) → held ≡ QueueRecord.Set ring → next ≡ withTail ring tail → QueueRecord.Set next ≡ atTail held tail
 unfolding atTail
-tail-set held tail ring e = rw e
+tail-set held tail ring next e n = rw (e, n)

@@ -11,8 +11,6 @@ use rules::Queue;
 use rules::QueueRecord;
 use rules::SOURCES;
 use rules::Source;
-use rules::TSBS;
-use rules::Tsb;
 use rules::TsbList;
 use rules::Versions;
 ghost use mathlib.Core.Path.{_≡_};
@@ -52,19 +50,10 @@ pub struct Done {
 pub fn done_by(answer: Answer, change: Change) -> Done
     ensures { λ r. ⌜ r ≡ doneBy answer change ⌝ }
 {
-    let list = [Tsb {
-        index: 0,
-        associativity: 0,
-        entries: 0,
-        context: 0,
-        mask: 0,
-        base: 0,
-    }; TSBS];
-    let tsbs = TsbList { count: 0, list };
     Done {
         answer,
         change,
-        tsbs,
+        tsbs: records::blank::tsbs(),
         tails: [0; CPUS],
     }
 }

@@ -11,6 +11,7 @@ ghost use mathlib.Core.Path.{_≡_};
 ghost use mathlib.Core.List.{map};
 ghost use Prim.Native.Nat.{_≤_};
 ghost use Rattle.rules.specs.Limits.{cpuLimit};
+ghost use Rattle.rules.specs.Kept.{withTail};
 ghost use Rattle.rules.specs.Versions.{disabled};
 ghost use Rattle.plants.specs.Changes.{atTail, cpuAtTail, withTails};
 
@@ -30,17 +31,21 @@ pub fn all_disabled(source: [Source; SOURCES]) -> [Source; SOURCES]
 }
 
 // A ring with its tail there.
+pub(crate) fn ring_at_tail(ring: Ring, tail: u16) -> Ring
+    ensures { λ r. ⌜ r ≡ withTail ring tail ⌝ }
+{
+    let mut next = ring;
+    next.tail = tail;
+    next
+}
+
+// The same of a queue's record.
 pub fn at_tail(held: QueueRecord, tail: u16) -> QueueRecord
     ensures { λ r. ⌜ r ≡ atTail held tail ⌝ }
 {
     match held {
         QueueRecord::Unset => QueueRecord::Unset,
-        QueueRecord::Set(ring) => QueueRecord::Set(Ring {
-            base: ring.base,
-            size: ring.size,
-            head: ring.head,
-            tail,
-        }),
+        QueueRecord::Set(ring) => QueueRecord::Set(ring_at_tail(ring, tail)),
     }
 }
 

@@ -1,4 +1,5 @@
 // An entry put into a ring.
+use crate::parts::ring_at_tail;
 use rules::Extents;
 use rules::QueueRecord;
 use rules::Real;
@@ -41,12 +42,7 @@ pub fn put_entry(extents: Extents, held: QueueRecord, mem: &mut [u8], entry: &[u
             }
             let at = ring.base + (ring.tail as u64);
             memory::write_at(extents, mem, Real(at), entry);
-            let moved = Ring {
-                base: ring.base,
-                size: ring.size,
-                head: ring.head,
-                tail,
-            };
+            let moved = ring_at_tail(ring, tail);
             Put {
                 held: QueueRecord::Set(moved),
                 room: true,

@@ -3,6 +3,8 @@ use mathlib.Core.Path.{_≡_, sym, _∙_}
 use denote.Ref.{now}
 use Rattle.bits.proofs.number_at.Reads as number-at-reads
 use Rattle.bits.proofs.field_at.Reads as field-at-reads
+use Rattle.memory.proofs.least.Reads as least-reads
+use Rattle.memory.proofs.greatest.Reads as greatest-reads
 use Rattle.memory.proofs.inside.Reads as inside-reads
 use Rattle.memory.proofs.through.Reads as through-reads
 use Rattle.memory.proofs.locate.Reads as locate-reads
@@ -29,6 +31,16 @@ use Rattle.records.proofs.judge_statistics.Reads as judge-statistics-reads
 use Rattle.records.proofs.is_page_index.Reads as is-page-index-reads
 use Rattle.records.proofs.inside_mask.Reads as inside-mask-reads
 use Rattle.records.proofs.judge_tsb.Reads as judge-tsb-reads
+use Rattle.records.proofs.blank.extent.Reads as blank-extent-reads
+use Rattle.records.proofs.blank.extents.Reads as blank-extents-reads
+use Rattle.records.proofs.blank.source.Reads as blank-source-reads
+use Rattle.records.proofs.blank.sources.Reads as blank-sources-reads
+use Rattle.records.proofs.blank.tsbs.Reads as blank-tsbs-reads
+use Rattle.records.proofs.blank.cpus.Reads as blank-cpus-reads
+use Rattle.records.proofs.blank.versions.Reads as blank-versions-reads
+use Rattle.records.proofs.blank.guest.Reads as blank-guest-reads
+use Rattle.records.proofs.blank.guests.Reads as blank-guests-reads
+use Rattle.records.proofs.blank.no_guests.Reads as blank-no-guests-reads
 use Rattle.sources.proofs.sysino_of.Reads as sysino-of-reads
 use Rattle.memory.proofs.write.Reads as write-reads
 use Rattle.memory.proofs.zero.Reads as zero-reads
@@ -41,6 +53,13 @@ number-at-determined κs a r s ws vs p q = p ∙ sym q
 
 pub field-at-determined : (κs : _) (a : _) (r s : _) (ws vs : _) → field-at-reads.Post κs a r ws → field-at-reads.Post κs a s vs → r ≡ s
 field-at-determined κs a r s ws vs p q = p ∙ sym q
+
+-- memory: bounds
+pub least-determined : (κs : _) (a : _) (r s : _) (ws vs : _) → least-reads.Post κs a r ws → least-reads.Post κs a s vs → r ≡ s
+least-determined κs a r s ws vs p q = p ∙ sym q
+
+pub greatest-determined : (κs : _) (a : _) (r s : _) (ws vs : _) → greatest-reads.Post κs a r ws → greatest-reads.Post κs a s vs → r ≡ s
+greatest-determined κs a r s ws vs p q = p ∙ sym q
 
 -- memory: where a range lies, and what stands there
 pub inside-determined : (κs : _) (a : _) (r s : _) (ws vs : _) → inside-reads.Post κs a r ws → inside-reads.Post κs a s vs → r ≡ s
@@ -122,6 +141,37 @@ inside-mask-determined κs a r s ws vs p q = p ∙ sym q
 
 pub judge-tsb-determined : (κs : _) (a : _) (r s : _) (ws vs : _) → judge-tsb-reads.Post κs a r ws → judge-tsb-reads.Post κs a s vs → r ≡ s
 judge-tsb-determined κs a r s ws vs p q = p ∙ sym q
+
+-- records: each record as it is after loading
+pub blank-extent-determined : (κs : _) (a : _) (r s : _) (ws vs : _) → blank-extent-reads.Post κs a r ws → blank-extent-reads.Post κs a s vs → r ≡ s
+blank-extent-determined κs a r s ws vs p q = p ∙ sym q
+
+pub blank-extents-determined : (κs : _) (a : _) (r s : _) (ws vs : _) → blank-extents-reads.Post κs a r ws → blank-extents-reads.Post κs a s vs → r ≡ s
+blank-extents-determined κs a r s ws vs p q = p ∙ sym q
+
+pub blank-source-determined : (κs : _) (a : _) (r s : _) (ws vs : _) → blank-source-reads.Post κs a r ws → blank-source-reads.Post κs a s vs → r ≡ s
+blank-source-determined κs a r s ws vs p q = p ∙ sym q
+
+pub blank-sources-determined : (κs : _) (a : _) (r s : _) (ws vs : _) → blank-sources-reads.Post κs a r ws → blank-sources-reads.Post κs a s vs → r ≡ s
+blank-sources-determined κs a r s ws vs p q = p ∙ sym q
+
+pub blank-tsbs-determined : (κs : _) (a : _) (r s : _) (ws vs : _) → blank-tsbs-reads.Post κs a r ws → blank-tsbs-reads.Post κs a s vs → r ≡ s
+blank-tsbs-determined κs a r s ws vs p q = p ∙ sym q
+
+pub blank-cpus-determined : (κs : _) (a : _) (r s : _) (ws vs : _) → blank-cpus-reads.Post κs a r ws → blank-cpus-reads.Post κs a s vs → r ≡ s
+blank-cpus-determined κs a r s ws vs p q = p ∙ sym q
+
+pub blank-versions-determined : (κs : _) (a : _) (r s : _) (ws vs : _) → blank-versions-reads.Post κs a r ws → blank-versions-reads.Post κs a s vs → r ≡ s
+blank-versions-determined κs a r s ws vs p q = p ∙ sym q
+
+pub blank-guest-determined : (κs : _) (a : _) (r s : _) (ws vs : _) → blank-guest-reads.Post κs a r ws → blank-guest-reads.Post κs a s vs → r ≡ s
+blank-guest-determined κs a r s ws vs p q = p ∙ sym q
+
+pub blank-guests-determined : (κs : _) (a : _) (r s : _) (ws vs : _) → blank-guests-reads.Post κs a r ws → blank-guests-reads.Post κs a s vs → r ≡ s
+blank-guests-determined κs a r s ws vs p q = p ∙ sym q
+
+pub blank-no-guests-determined : (κs : _) (a : _) (r s : _) (ws vs : _) → blank-no-guests-reads.Post κs a r ws → blank-no-guests-reads.Post κs a s vs → r ≡ s
+blank-no-guests-determined κs a r s ws vs p q = p ∙ sym q
 
 -- sources: a source's position
 pub sysino-of-determined : (κs : _) (a : _) (r s : _) (ws vs : _) → sysino-of-reads.Post κs a r ws → sysino-of-reads.Post κs a s vs → r ≡ s

@@ -17,8 +17,9 @@ use Rattle.queues.specs.declared.Moved.{Moved}
 use Rattle.queues.specs.Rings.{PlacesIn, PlacesSound, newHead, movedOf}
 
 -- the ring of a sound record is sound
-pub sound-there : (plant : Plant) (cpu queue : ℕ) (held : QueueRecord) (ring : Ring) → (queue ≤ 0x3f → PlacesSound (queueAt (cpuAt plant cpu) (queue - 0x3c))) → queue ≤ 0x3f → held ≡ queueAt (cpuAt plant cpu) (queue - 0x3c) → held ≡ QueueRecord.Set ring → PlacesIn ring
-sound-there plant cpu queue held ring f h p e = rw (← p, e) at (f h)
+pub sound-there : (plant : Plant) (cpu queue q : ℕ) (held : QueueRecord) (ring : Ring) → (queue ≤ 0x3f → PlacesSound (queueAt (cpuAt plant cpu) (queue - 0x3c)))
+    → queue ≤ 0x3f → q ≡ queue - 0x3c → held ≡ queueAt (cpuAt plant cpu) q → held ≡ QueueRecord.Set ring → PlacesIn ring
+sound-there plant cpu queue q held ring f h x p e = rw (← x, ← p, e) at (f h)
 
 -- what follows the head write's tests is what its rule grants
 pub head-then : {A : Type 0} (ring : Ring) (value : ℕ) (f : Ring → Ruling A) → (eqb (value % 64) 0 or-refuse EBADALIGN then (ltb value (ring .size) && leb (forward ring value) (forward ring (ring .tail))) or-refuse EINVAL then f (withHead ring value)) ≡ (newHead ring value grants f)

@@ -7,6 +7,7 @@ use plants::told;
 use records::Verdict;
 use rules::Answer;
 use rules::Extents;
+use rules::Found;
 use rules::Plant;
 use rules::QueueRecord;
 use rules::Refusal;
@@ -20,7 +21,21 @@ ghost use Rattle.rules.specs.Kept.{cpuAt, queueAt, withHead};
 ghost use Rattle.rules.specs.Queues.{forward, cpu-qconf, cpu-qinfo, cpu-myid, write-head};
 ghost use Rattle.plants.specs.Changes.{doneBy};
 ghost use Rattle.plants.specs.Done.{quietly, saying, validIn};
+ghost use Rattle.queues.specs.Places.{placeOf};
 ghost use Rattle.queues.specs.Rings.{PlacesIn, PlacesSound, newHead, movedOf};
+
+// The place of a queue in the cpu's record, where the number is a queue's.
+fn place_of(queue: u64) -> Found
+    ensures { λ r. ⌜ r ≡ placeOf queue ⌝ }
+{
+    if queue < 0x3c {
+        return Found::Nothing;
+    }
+    if 0x3f < queue {
+        return Found::Nothing;
+    }
+    Found::At((queue - 0x3c) as usize)
+}
 
 // Queue q of a cpu.
 fn queue_at(plant: Plant, cpu: usize, q: usize) -> QueueRecord
@@ -44,13 +59,10 @@ pub fn cpu_qconf(extents: Extents, plant: Plant, cpu: usize, queue: u64, base: u
     requires { ⌜ (extents .count ≤ extentLimit) × (cpu < cpuLimit) ⌝ }
     ensures { λ r. ⌜ quietly plant r ≡ outcomeOf plant (cpu-qconf (validIn extents) plant cpu queue base n) ⌝ }
 {
-    if queue < 0x3c {
+    let place = place_of(queue);
+    let Found::At(q) = place else {
         return told(Answer::Refused(Refusal::EINVAL));
-    }
-    if 0x3f < queue {
-        return told(Answer::Refused(Refusal::EINVAL));
-    }
-    let q = (queue - 0x3c) as usize;
+    };
     if n == 0 {
         return held_now(cpu, q, QueueRecord::Unset);
     }
@@ -74,13 +86,11 @@ pub fn cpu_qinfo(plant: Plant, cpu: usize, queue: u64) -> Answer
     requires { ⌜ cpu < cpuLimit ⌝ }
     ensures { λ r. ⌜ saying plant r ≡ outcomeOf plant (cpu-qinfo plant cpu queue) ⌝ }
 {
-    if queue < 0x3c {
+    let place = place_of(queue);
+    let Found::At(q) = place else {
         return Answer::Refused(Refusal::EINVAL);
-    }
-    if 0x3f < queue {
-        return Answer::Refused(Refusal::EINVAL);
-    }
-    let held = queue_at(plant, cpu, (queue - 0x3c) as usize);
+    };
+    let held = queue_at(plant, cpu, q);
     match held {
         QueueRecord::Unset => Answer::Two(0, 0),
         QueueRecord::Set(ring) => Answer::Two(ring.base, (ring.size as u64) / 64),
@@ -151,13 +161,10 @@ pub fn write_head(plant: Plant, cpu: usize, queue: u64, value: u64) -> Done
     requires { ⌜ (cpu < cpuLimit) × (queue ≤ 0x3f → PlacesSound (queueAt (cpuAt plant cpu) (queue - 0x3c))) ⌝ }
     ensures { λ r. ⌜ quietly plant r ≡ outcomeOf plant (write-head plant cpu queue value) ⌝ }
 {
-    if queue < 0x3c {
+    let place = place_of(queue);
+    let Found::At(q) = place else {
         return told(Answer::Refused(Refusal::EINVAL));
-    }
-    if 0x3f < queue {
-        return told(Answer::Refused(Refusal::EINVAL));
-    }
-    let q = (queue - 0x3c) as usize;
+    };
     let held = queue_at(plant, cpu, q);
     let QueueRecord::Set(ring) = held else {
         return told(Answer::Refused(Refusal::EINVAL));

@@ -1,6 +1,5 @@
 // Input in pieces of any size. What a piece leaves unfinished is kept until the next one.
 ghost use mathlib.Core.Path.{_≡_};
-ghost use Prim.Native.Nat.{min};
 ghost use Rattle.session.specs.Feeding.{feedOf, Feeds, atFirst, ending, room};
 use crate::ask::Asked;
 use crate::ask::ask;
@@ -8,6 +7,7 @@ use crate::ask::load_line;
 use crate::reply::REPLY;
 use crate::reply::Reply;
 use crate::reply::put_reply;
+use memory::least;
 use rules::Answer;
 use rules::Tables;
 
@@ -39,12 +39,6 @@ pub fn begin() -> Feeder
         line: [0; LINE],
         held: 0,
     }
-}
-
-fn least(a: usize, b: usize) -> usize
-    ensures { λ r. ⌜ r ≡ min a b ⌝ }
-{
-    if a < b { a } else { b }
 }
 
 // Takes as much of the piece as there is room for answers: any byte can end a line, and an answer has at most REPLY bytes.

@@ -27,17 +27,6 @@ fn put_text(reply: Reply, text: &mut [u8; REPLY]) -> usize
     }
 }
 
-fn copy(text: &[u8], out: &mut [u8], at: usize)
-    requires { ⌜ at + length (now text) ≤ length (now out) ⌝ }
-    ensures { λ _. ⌜ now (out .exit) ≡ sets (now (out .entry)) at (now (text .entry)) ⌝ }
-{
-    let mut i = 0;
-    while i < text.len() {
-        out[at + i] = text[i];
-        i += 1;
-    }
-}
-
 // Its text from the place at on, and the place behind it.
 pub fn put_reply(reply: Reply, out: &mut [u8], at: usize) -> usize
     requires { ⌜ at + 96 ≤ length (now out) ⌝ }
@@ -45,6 +34,6 @@ pub fn put_reply(reply: Reply, out: &mut [u8], at: usize) -> usize
 {
     let mut text = [0u8; REPLY];
     let n = put_text(reply, &mut text);
-    copy(&text[..n], out, at);
+    memory::write(out, at, &text[..n]);
     at + n
 }

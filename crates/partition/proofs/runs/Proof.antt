@@ -2,6 +2,7 @@
 use mathlib.Core.Path.{_≡_, refl}
 use Prim.Native.Nat.{_-_, _≤_}
 use native.Mathlib.Omega.{arith}
+use borrow.Author.Needs.{needs}
 use Rattle.rules.specs.Kept.{blankExtent}
 use Rattle.rules.specs.Image.{filled, runAt}
 use Rattle.partition.specs.Collected.{runLimit, runsOf}
@@ -16,8 +17,11 @@ Inv-loop guest runs₀ k₀ runs k = (k ≤ runLimit) × (runs ≡ filled runLim
 abbrev μ-loop : tie.MeasureT-loop
 μ-loop guest runs₀ k₀ runs k = runLimit - k
 
+extent-requires : tie.Need-extent-requires Inv-loop μ-loop
+extent-requires c κs = search needs
+
 loop-holds : tie.Need-loop-holds Inv-loop μ-loop
-loop-holds c = (omega arith, fill-start _ _ _)
+loop-holds c = (omega arith, rw (c .extent .ensures) (fill-start _ _ _))
 
 mul-at : tie.Need-mul-at Inv-loop μ-loop
 mul-at c = omega arith
@@ -57,6 +61,7 @@ runs-spec =
     (tie.spec
     Inv-loop
     μ-loop
+    extent-requires
     loop-holds
     mul-at
     array-copy-out-at

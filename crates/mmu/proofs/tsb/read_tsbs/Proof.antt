@@ -4,6 +4,7 @@ use borrow.Author.Needs.{needs}
 use mathlib.Core.Path.{_≡_, sym, ap, _∙_}
 use Prim.Native.Nat.{_≤_, _-_, _*_}
 use lib.ListN.{length, length-set}
+use Rattle.rules.specs.declared.TsbList.{TsbList}
 use Rattle.rules.specs.Real.{sightOf}
 use Rattle.rules.specs.Rulings.{granted}
 use Rattle.rules.specs.Tsb.{descriptors}
@@ -20,12 +21,12 @@ Inv-loop extents mem count pointer list₀ i₀ list i = (i ≤ count) × (lengt
 abbrev μ-loop : tie.MeasureT-loop
 μ-loop extents mem count pointer list₀ i₀ list i = count - i
 
-blank-tsbs-requires : tie.Need-blank-tsbs-requires Inv-loop μ-loop
-blank-tsbs-requires c κs = search needs
+tsbs-requires : tie.Need-tsbs-requires Inv-loop μ-loop
+tsbs-requires c κs = search needs
 
 loop-holds : tie.Need-loop-holds Inv-loop μ-loop
 loop-holds c =
-    let e = c .blank-tsbs .ensures in
+    let e = ap (λ (t : TsbList). t .list) (c .before .tsbs .ensures) in
     (omega arith, ap length e, listed-none _ _ ∙ ap granted (sym e))
 
 cast-at : tie.Need-cast-at Inv-loop μ-loop
@@ -36,12 +37,12 @@ mul-at c = omega arith
 
 add-at : tie.Need-add-at Inv-loop μ-loop
 add-at c =
-    let s = c .before .before .before .before in
+    let s = c .before .before .before .before .before in
     omega (arith, range-ends (s .args .extents) _ (s .args .pointer) (32 * s .args .count) (s .good .0) (s .pre .1 .1))
 
 descriptor-at-requires : tie.Need-descriptor-at-requires Inv-loop μ-loop
 descriptor-at-requires c κs =
-    let s = c .before .before .before .before in
+    let s = c .before .before .before .before .before in
     (s .pre .0 .0, (s .pre .1 .0, valid-part _ _ _ _ _ (s .pre .1 .1) (omega arith)))
 
 judge-tsb-requires : tie.Need-judge-tsb-requires Inv-loop μ-loop
@@ -83,7 +84,7 @@ read-tsbs-spec =
     (tie.spec
     Inv-loop
     μ-loop
-    blank-tsbs-requires
+    tsbs-requires
     loop-holds
     cast-at
     mul-at

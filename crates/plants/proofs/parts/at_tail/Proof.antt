@@ -10,6 +10,9 @@ enum-told c = search needs
 enum-known-held : tie.Need-enum-known-held
 enum-known-held c = search needs
 
+ring-at-tail-requires : tie.Need-ring-at-tail-requires
+ring-at-tail-requires c κs = search needs
+
 returns : tie.Need-returns
 returns c = search tail-unset
 
@@ -17,4 +20,4 @@ returns-2 : tie.Need-returns-2
 returns-2 c = search tail-set
 
 pub at-tail-spec : {M : Type 1} → statement M
-at-tail-spec = tie.close (tie.spec enum-told enum-known-held returns returns-2)
+at-tail-spec = tie.close (tie.spec enum-told enum-known-held ring-at-tail-requires returns returns-2)

@@ -43,6 +43,9 @@ write-at-requires c κs = let d = c .before .before .before .before .before .bef
     let r = found d in
     (s .pre .0, (s .pre .1 .0, valid-part _ _ _ _ _ (r .within) (omega (arith, r .tail, r .whole, r .tail-below, s .good))))
 
+ring-at-tail-requires : tie.Need-ring-at-tail-requires
+ring-at-tail-requires c κs = search needs
+
 returns-2 : tie.Need-returns-2
 returns-2 c = search put-unset
 
@@ -63,6 +66,7 @@ put-entry-spec =
     cast-at
     add-at
     write-at-requires
+    ring-at-tail-requires
     returns-2
     same-length
     returns-3)

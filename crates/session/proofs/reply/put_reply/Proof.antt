@@ -10,13 +10,13 @@ put-text-requires : tie.Need-put-text-requires
 put-text-requires c κs = search needs
 
 array-share-prefix-text : tie.Need-array-share-prefix-text
-array-share-prefix-text c = omega (arith, text-fits _ _ _ _ refl (c .put-text .ensures), text-long _ _ _ _ refl (c .put-text .ensures))
+array-share-prefix-text c = omega (arith, text-fits _ _ _ _ refl (c .before .put-text .ensures), text-long _ _ _ _ refl (c .before .put-text .ensures))
 
-slice-aggregate-copy : tie.Need-slice-aggregate-copy
-slice-aggregate-copy c = text-taken _ _ _ _ refl (c .before .put-text .ensures)
+slice-aggregate-write : tie.Need-slice-aggregate-write
+slice-aggregate-write c = text-taken _ _ _ _ refl (c .before .before .put-text .ensures)
 
-copy-requires : tie.Need-copy-requires
-copy-requires c κs = omega (arith, text-taken _ _ _ _ refl (c .before .before .put-text .ensures), text-fits _ _ _ _ refl (c .before .before .put-text .ensures))
+write-requires : tie.Need-write-requires
+write-requires c κs = omega (arith, text-taken _ _ _ _ refl (c .before .before .put-text .ensures), text-fits _ _ _ _ refl (c .before .before .put-text .ensures))
 
 add-result : tie.Need-add-result
 add-result c = omega (arith, text-fits _ _ _ _ refl (c .before .before .before .before .before .put-text .ensures))
@@ -25,7 +25,7 @@ same-length : tie.Need-same-length
 same-length c = search needs
 
 returns : tie.Need-returns
-returns c = put-whole _ _ _ _ refl (c .before .before .before .before .before .put-text .ensures) _ _ _ (c .before .before .copy .ensures)
+returns c = put-whole _ _ _ _ refl (c .before .before .before .before .before .put-text .ensures) _ _ _ (c .before .before .write .ensures)
 
 pub put-reply-spec : {M : Type 1} → statement M
 put-reply-spec =
@@ -33,8 +33,8 @@ put-reply-spec =
     (tie.spec
     put-text-requires
     array-share-prefix-text
-    slice-aggregate-copy
-    copy-requires
+    slice-aggregate-write
+    write-requires
     add-result
     same-length
     returns)

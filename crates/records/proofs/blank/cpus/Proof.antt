@@ -1,7 +1,7 @@
--- `blank::cpus` meets its contract: its lists of descriptors are blank.
+-- `records::blank::cpus` meets its contract: its lists of descriptors are blank.
 use borrow.Author.Needs.{needs}
-use Rattle.image.proofs.blank.cpus.Statement.{statement}
-use Rattle.image.proofs.blank.cpus.Tie as tie
+use Rattle.records.proofs.blank.cpus.Statement.{statement}
+use Rattle.records.proofs.blank.cpus.Tie as tie
 
 tsbs-requires : tie.Need-tsbs-requires
 tsbs-requires c κs = search needs

@@ -1,7 +1,7 @@
--- `blank::guest` meets its contract: each of its parts is blank.
+-- `records::blank::guest` meets its contract: each of its parts is blank.
 use borrow.Author.Needs.{needs}
-use Rattle.image.proofs.blank.guest.Statement.{statement}
-use Rattle.image.proofs.blank.guest.Tie as tie
+use Rattle.records.proofs.blank.guest.Statement.{statement}
+use Rattle.records.proofs.blank.guest.Tie as tie
 
 extents-requires : tie.Need-extents-requires
 extents-requires c κs = search needs

@@ -23,20 +23,26 @@ use rules::Tsb;
 use rules::TsbList;
 use rules::Versions;
 
-pub fn extents() -> [Extent; EXTENTS]
-    ensures { λ r. ⌜ r ≡ replicate extentLimit blankExtent ⌝ }
+pub fn extent() -> Extent
+    ensures { λ r. ⌜ r ≡ blankExtent ⌝ }
 {
-    [Extent {
+    Extent {
         real: 0,
         count: 0,
         host: 0,
-    }; EXTENTS]
+    }
 }
 
-pub fn sources() -> [Source; SOURCES]
-    ensures { λ r. ⌜ r ≡ replicate sourceLimit blankSource ⌝ }
+pub fn extents() -> [Extent; EXTENTS]
+    ensures { λ r. ⌜ r ≡ replicate extentLimit blankExtent ⌝ }
 {
-    [Source {
+    [extent(); EXTENTS]
+}
+
+pub fn source() -> Source
+    ensures { λ r. ⌜ r ≡ blankSource ⌝ }
+{
+    Source {
         devhandle: 0,
         devino: 0,
         cookies: false,
@@ -44,7 +50,13 @@ pub fn sources() -> [Source; SOURCES]
         state: 0,
         target: Target::Unset,
         cookie: 0,
-    }; SOURCES]
+    }
+}
+
+pub fn sources() -> [Source; SOURCES]
+    ensures { λ r. ⌜ r ≡ replicate sourceLimit blankSource ⌝ }
+{
+    [source(); SOURCES]
 }
 
 pub fn versions() -> Versions
@@ -58,7 +70,7 @@ pub fn versions() -> Versions
     }
 }
 
-fn tsbs() -> TsbList
+pub fn tsbs() -> TsbList
     ensures { λ r. ⌜ r ≡ blankTsbs ⌝ }
 {
     TsbList {

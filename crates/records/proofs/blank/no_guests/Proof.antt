@@ -1,8 +1,8 @@
--- `blank::no_guests` meets its contract: its guests are blank.
+-- `records::blank::no_guests` meets its contract: its guests are blank.
 use borrow.Author.Needs.{needs}
 use Rattle.rules.specs.Kept.{noGuests}
-use Rattle.image.proofs.blank.no_guests.Statement.{statement}
-use Rattle.image.proofs.blank.no_guests.Tie as tie
+use Rattle.records.proofs.blank.no_guests.Statement.{statement}
+use Rattle.records.proofs.blank.no_guests.Tie as tie
 
 guests-requires : tie.Need-guests-requires
 guests-requires c κs = search needs
