@@ -1,0 +1,4 @@
+pub mod FieldLaws
+pub mod ImageLaws
+pub mod LineLaws
+pub mod Exactly
