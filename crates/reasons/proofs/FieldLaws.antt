@@ -17,7 +17,7 @@ use Rattle.reasons.specs.declared.fault.Fault.{Fault}
 use Rattle.reasons.specs.declared.fault.Fault.the-variants.{EmptyField, NoNumber, TooFew, TooMany}
 use Rattle.reasons.specs.declared.fault.Why.{Why}
 use Rattle.reasons.specs.declared.fault.Why.the-variants.{Good, Bad}
-use Rattle.reasons.specs.Faults.{least, most, whyField, whyCount, whyFields, _before_, _or-tell_then_, isSome}
+use Rattle.reasons.specs.Faults.{least, most, whyField, whyCount, whyFields, _before_}
 use Rattle.reasons.specs.Told.{told}
 
 -- n fields: l and m are how few and how many the code allows
@@ -35,6 +35,24 @@ module _ (word : Word) (n l m : ℕ) (p : l ≡ least word) where
     unfolding whyCount
     count-right k = rw (le-leb (least word) n (rw p at h), le-leb n (most word) (rw q at k))
 
+-- what a number tells of its field
+module _ (o : Option ℕ) (number : Number) (q : number ≡ numberOr o) where
+  pub tells-bad : number ≡ Number.Bad → o ≡ none
+  unfolding numberOr
+  tells-bad b = go o (sym b ∙ q)
+    where
+      go : (p : Option ℕ) → Number.Bad ≡ numberOr p → p ≡ none
+      go none e = refl
+      go (some n) e = cc
+
+  pub tells-is : (v : ℕ) → number ≡ Number.Is v → o ≡ some v
+  unfolding numberOr
+  tells-is v b = go o (sym b ∙ q)
+    where
+      go : (p : Option ℕ) → Number.Is v ≡ numberOr p → p ≡ some v
+      go none e = cc
+      go (some n) e = cc
+
 -- one field
 module _ (k : ℕ) (text : List ℕ) where
   pub field-empty : length text < 1 → Bad (EmptyField k) ≡ told (whyField k text)
@@ -43,20 +61,12 @@ module _ (k : ℕ) (text : List ℕ) where
 
   module _ (h : 1 ≤ length text) (number : Number) (q : number ≡ numberOr (field text)) where
     pub field-bad : number ≡ Number.Bad → Bad (NoNumber k) ≡ told (whyField k text)
-    unfolding whyField numberOr
-    field-bad b = rw (le-leb 1 (length text) h) (go (field text) (sym b ∙ q))
-      where
-        go : (o : Option ℕ) → Number.Bad ≡ numberOr o → Bad (NoNumber k) ≡ told (isSome o or-tell NoNumber k then none)
-        go none e = refl
-        go (some n) e = cc
+    unfolding whyField
+    field-bad b = let z : field text ≡ none = tells-bad (field text) number q b in rw (le-leb 1 (length text) h, z)
 
     pub field-good : (v : ℕ) → number ≡ Number.Is v → Good ≡ told (whyField k text)
-    unfolding whyField numberOr
-    field-good v b = rw (le-leb 1 (length text) h) (go (field text) (sym b ∙ q))
-      where
-        go : (o : Option ℕ) → Number.Is v ≡ numberOr o → Good ≡ told (isSome o or-tell NoNumber k then none)
-        go none e = cc
-        go (some n) e = refl
+    unfolding whyField
+    field-good v b = let z : field text ≡ some v = tells-is (field text) number q v b in rw (le-leb 1 (length text) h, z)
 
 -- the fields behind the place at, of which those before it were numbers
 module _ (s : List ℕ) (word : Word) (at count : ℕ) (w : Option Fault) (e : whyFields word count (behind (drop at s)) ≡ w) where

@@ -81,6 +81,7 @@ module _ (s : List ℕ) (end : ℕ) (e : end ≡ 0 + firstLength (drop 0 s)) whe
       line-event word h why f = let z : wordOf (take end s) ≡ some word = event-told _ word (sym h ∙ g) in f ∙ rw (cut, ← p, q, z)
 
 pub last-none : (s : List ℕ) → length s ≡ 0 → 0 ≡ lastByte s
+unfolding lastByte
 last-none [] e = refl
 last-none (b ∷ bs) e = absurd (omega arith)
 

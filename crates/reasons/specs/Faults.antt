@@ -90,7 +90,7 @@ whyLine [] = some OtherWord
 whyLine (word ∷ texts) = if same word imageWord then whyImage (joined texts) else whyEvent (wordOf word) texts
 
 -- the last byte of a line, and 0 of an empty one
-abbrev pub lastByte : List ℕ → ℕ
+unfoldable pub lastByte : List ℕ → ℕ
 lastByte line = getD line (length line - 1) 0
 
 -- Files from other systems have a carriage return (0d) at every line's end: of a bad line that ends in one, that is told. A good

@@ -1,2 +1,4 @@
 pub mod Faults
 pub mod Told
+pub mod Words
+pub mod Put
