@@ -4,3 +4,6 @@ pub mod LineLaws
 pub mod PutLaws
 pub mod WordLaws
 pub mod Exactly
+pub mod Complete
+pub mod Short
+pub mod Examples
