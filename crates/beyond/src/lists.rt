@@ -1,5 +1,8 @@
 // The TSB lists as they are kept.
+use crate::say::say;
 use crate::say::say_number;
+use rules::CPUS;
+use rules::GUESTS;
 use rules::Tables;
 use rules::Tsb;
 use rules::TsbList;
@@ -23,27 +26,18 @@ fn show_list(list: TsbList) {
     say_tsb(places[3], b"\n");
 }
 
-// The lists of guest 0: of cpu 0 those of 0x20 and 0x21, of cpu 1 that of 0x20.
-pub(crate) fn show_ctx0(tables: Tables) {
-    let guest = tables.guest[0];
+// Of guest g's cpu c the list of 0x20, or that of 0x21.
+pub(crate) fn show_list_of(tables: Tables, g: usize, c: usize, nonzero: bool) {
+    if GUESTS <= g {
+        return say(b"bad\n");
+    }
+    if CPUS <= c {
+        return say(b"bad\n");
+    }
+    let guest = tables.guest[g];
     let plant = guest.plant;
-    let cpu = plant.cpu[0];
-    let list = cpu.ctx0;
-    show_list(list);
-}
-
-pub(crate) fn show_ctxnon0(tables: Tables) {
-    let guest = tables.guest[0];
-    let plant = guest.plant;
-    let cpu = plant.cpu[0];
-    let list = cpu.ctxnon0;
-    show_list(list);
-}
-
-pub(crate) fn show_other(tables: Tables) {
-    let guest = tables.guest[0];
-    let plant = guest.plant;
-    let cpu = plant.cpu[1];
-    let list = cpu.ctx0;
-    show_list(list);
+    let cpu = plant.cpu[c];
+    let ctx0 = cpu.ctx0;
+    let ctxnon0 = cpu.ctxnon0;
+    show_list(if nonzero { ctxnon0 } else { ctx0 });
 }

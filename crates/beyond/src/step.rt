@@ -7,9 +7,7 @@ use crate::lent::put_back;
 use crate::lent::same_as;
 use crate::lent::same_bytes;
 use crate::lent::zeros_of;
-use crate::lists::show_ctx0;
-use crate::lists::show_ctxnon0;
-use crate::lists::show_other;
+use crate::lists::show_list_of;
 use crate::same::same_tables;
 use crate::say::say;
 use crate::say::say_changed;
@@ -161,11 +159,11 @@ fn run_word(bench: Bench, mem: &mut [u8], line: &[u8]) -> Bench {
     if is(line, b"zeros") {
         show_zeros(mem);
     } else if is(line, b"ctx0") {
-        show_ctx0(tables);
+        show_list_of(tables, 0, 0, false);
     } else if is(line, b"ctxnon0") {
-        show_ctxnon0(tables);
+        show_list_of(tables, 0, 0, true);
     } else if is(line, b"other") {
-        show_other(tables);
+        show_list_of(tables, 0, 1, false);
     } else if is(line, b"short") {
         return with_lent(bench, MEMORY - 1);
     } else if is(line, b"exact") {
@@ -233,6 +231,33 @@ fn run_try(bench: Bench, mem: &mut [u8], line: &[u8]) -> Bench {
     }
 }
 
+// Behind `ctx0 ` and `ctxnon0 `: whose list is shown. `load G C` names guest and cpu.
+fn run_list(bench: Bench, line: &[u8], nonzero: bool) -> Bench {
+    let Line::Event(event) = text::parse_line(line) else {
+        return bad(bench);
+    };
+    let Event::Load(of) = event else {
+        return bad(bench);
+    };
+    let tables = bench.tables;
+    show_list_of(tables, of.guest as usize, of.address as usize, nonzero);
+    bench
+}
+
+// A line that asks for a cpu's list, or any other.
+fn run_other(bench: Bench, mem: &mut [u8], line: &[u8]) -> Bench {
+    if line.len() < 8 {
+        return run_plain(bench, mem, line);
+    }
+    if begins(line, b"ctx0 ") {
+        return run_list(bench, &line[5..], false);
+    }
+    if begins(line, b"ctxnon0 ") {
+        return run_list(bench, &line[8..], true);
+    }
+    run_plain(bench, mem, line)
+}
+
 pub(crate) fn run_line(bench: Bench, mem: &mut [u8], line: &[u8]) -> Bench {
     // Too short for any of these words and what has to stand behind it.
     if line.len() < 5 {
@@ -247,5 +272,5 @@ pub(crate) fn run_line(bench: Bench, mem: &mut [u8], line: &[u8]) -> Bench {
     if begins(line, b"try ") {
         return run_try(bench, mem, &line[4..]);
     }
-    run_plain(bench, mem, line)
+    run_other(bench, mem, line)
 }

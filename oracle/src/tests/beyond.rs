@@ -60,11 +60,17 @@ impl Bench {
                 false => Answer::Breaks(self.breaks()),
             };
         }
+        if let Some(cpu) = line.strip_prefix("ctx0 ") {
+            return Answer::Is(self.list_of(cpu, 0));
+        }
+        if let Some(cpu) = line.strip_prefix("ctxnon0 ") {
+            return Answer::Is(self.list_of(cpu, 1));
+        }
         Answer::Is(match line {
             "zeros" => self.zeros(),
-            "ctx0" => self.list(0, 0),
-            "ctxnon0" => self.list(0, 1),
-            "other" => self.list(1, 0),
+            "ctx0" => self.list(0, 0, 0),
+            "ctxnon0" => self.list(0, 0, 1),
+            "other" => self.list(0, 1, 0),
             "short" => self.lend(MEMORY - 1),
             "exact" => self.lend(MEMORY),
             "none" => self.lend(0),
@@ -151,10 +157,17 @@ impl Bench {
         )
     }
 
+    fn list_of(&self, cpu: &str, which: usize) -> String {
+        let Some(Line::Event(Event::Load { guest, address })) = parse(cpu.as_bytes()) else {
+            panic!("no guest and cpu: {cpu}");
+        };
+        self.list(guest as usize, address.0 as usize, which)
+    }
+
     /// Associativity and context index are not kept by the model: an accepted
     /// descriptor has 1 and 0.
-    fn list(&self, cpuid: usize, which: usize) -> String {
-        let list: &TsbList = &self.host.tables.guests[0].cpus[cpuid].tsb_lists[which];
+    fn list(&self, guest: usize, cpuid: usize, which: usize) -> String {
+        let list: &TsbList = &self.host.tables.guests[guest].cpus[cpuid].tsb_lists[which];
         let mut text = format!("{:x}", list.iter().flatten().count());
         for place in list {
             text += &match place {
