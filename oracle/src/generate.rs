@@ -3,16 +3,18 @@
 //! The generator follows its own session with a host, so that it can aim at
 //! the bounds of the state that the session has reached.
 
+mod limit_steps;
 mod malformed;
 mod memory_steps;
 mod partition;
 mod queue_steps;
 mod random;
+mod refusal_steps;
 mod source_steps;
 
 use crate::model::Host;
 use crate::session;
-use crate::tables::{Guest, HostOffset, RealAddress};
+use crate::tables::{Group, Guest, HostOffset, RealAddress};
 use partition::Partition;
 use random::Random;
 use std::io::{self, Write};
@@ -48,7 +50,7 @@ const EDGE_NUMBERS: [u64; 24] = [
 type Step = fn(&mut Generator);
 
 /// What happens on a sound partition, and how often.
-const STEPS: [(u64, Step); 16] = [
+const STEPS: [(u64, Step); 20] = [
     (7, Generator::mondo_step),
     (14, Generator::head_step),
     (6, Generator::configure_step),
@@ -56,14 +58,18 @@ const STEPS: [(u64, Step); 16] = [
     (1, Generator::cpuid_step),
     (16, Generator::source_step),
     (18, Generator::raise_step),
-    (3, Generator::tsb_step),
-    (3, Generator::statistics_step),
+    (2, Generator::tsb_step),
+    (4, Generator::statistics_step),
     (2, Generator::scrub_step),
-    (12, Generator::word_step),
-    (2, Generator::sweep_step),
+    (8, Generator::word_step),
+    (1, Generator::sweep_step),
     (3, Generator::version_step),
     (3, Generator::unknown_step),
     (2, Generator::any_call_step),
+    (8, Generator::refusal_step),
+    (5, Generator::seam_step),
+    (1, Generator::upgrade_step),
+    (1, Generator::long_ring_step),
     (5, Generator::malformed_step),
 ];
 
@@ -85,6 +91,8 @@ struct Generator {
     host: Host,
     lines_left: u64,
     text: Vec<u8>,
+    /// The sound image before, which is now and then loaded again.
+    last_image: Vec<u8>,
     /// Chosen more often than the others, so that its rings fill.
     favourite: (usize, usize),
 }
@@ -96,29 +104,44 @@ impl Generator {
             host: Host::new(),
             lines_left: lines,
             text: Vec::new(),
+            last_image: Vec::new(),
             favourite: (0, 0),
         }
     }
 
-    /// Some refused images, then a sound one and a long run of events on it.
+    /// Often some images that are refused or ask for more memory; then one
+    /// that does not, and a long run of events on it.
     fn era(&mut self) {
-        for _ in 0..self.random.below(30) {
+        if self.random.one_in(2) {
+            self.bad_images();
+        }
+        self.sound_image();
+        self.prepare();
+        let length = self.random.pick(&[40, 80, 120, 200, 300, 600]);
+        for _ in 0..length {
+            if self.lines_left == 0 {
+                break;
+            }
+            self.step();
+        }
+    }
+
+    /// A refused image leaves no guest, so that the next finds nothing.
+    fn bad_images(&mut self) {
+        for _ in 0..self.random.below(60) {
             self.damaged_image();
-            self.blind_events(5);
+            self.blind_events(3);
         }
         if self.random.one_in(3) {
             let partition = Partition::anywhere(&mut self.random);
             self.image(&partition.pack());
             self.blind_events(20);
         }
-        self.sound_image();
-        self.prepare();
-        let length = self.random.pick(&[50, 100, 200, 400, 1000, 2000]);
-        for _ in 0..length {
-            if self.lines_left == 0 {
-                break;
-            }
-            self.step();
+        for _ in 0..1 + self.random.below(4) {
+            let partition = Partition::reaching_out(&mut self.random);
+            self.image(&partition.pack());
+            self.event("load", &[0, 0]);
+            self.blind_events(4);
         }
     }
 
@@ -249,16 +272,18 @@ impl Generator {
     }
 
     fn sound_image(&mut self) {
-        let partition = Partition::in_memory(&mut self.random);
-        self.image(&partition.pack());
-        let guest = self.random.index(self.host.tables.guests.len());
+        if self.last_image.is_empty() || self.random.one_in(2) {
+            self.last_image = Partition::in_memory(&mut self.random).pack();
+        }
+        self.image(&self.last_image.clone());
+        let guest = self.random.index_or_last(self.host.tables.guests.len());
         let cpus = self
             .host
             .tables
             .guests
             .get(guest)
             .map_or(0, |g| g.cpus.len());
-        self.favourite = (guest, self.random.index(cpus));
+        self.favourite = (guest, self.random.index_or_last(cpus));
     }
 
     fn damaged_image(&mut self) {
@@ -308,8 +333,9 @@ impl Generator {
         if self.random.one_in(2) {
             return self.favourite;
         }
-        let guest = self.random.index(self.host.tables.guests.len());
-        (guest, self.random.index(self.guest(guest).cpus.len()))
+        let guest = self.random.index_or_last(self.host.tables.guests.len());
+        let cpus = self.guest(guest).cpus.len();
+        (guest, self.random.index_or_last(cpus))
     }
 
     /// The same, rather with sources than without.
@@ -355,7 +381,8 @@ impl Generator {
 
     /// The first address of one of the guest's extents, and its size.
     fn some_extent(&mut self, guest: usize) -> (u64, u64) {
-        let place = self.random.index(self.guest(guest).extents.len());
+        let extents = self.guest(guest).extents.len();
+        let place = self.random.index_or_last(extents);
         let extent = self.guest(guest).extents[place];
         (extent.real_start(), extent.size())
     }
@@ -381,7 +408,8 @@ impl Generator {
         }
     }
 
-    /// Writes bytes by stores of whole words, keeping what is beside them.
+    /// Writes bytes by stores of whole words, keeping what is beside them. A
+    /// word that stands there already is not stored.
     fn write(&mut self, guest: usize, address: u64, bytes: &[u8]) {
         let first = address - address % 8;
         let behind = address.saturating_add(bytes.len() as u64);
@@ -397,7 +425,9 @@ impl Generator {
                     .and_then(|i| bytes.get(i as usize));
                 *byte = *new.unwrap_or(byte);
             }
-            self.event("store", &[guest as u64, word, u64::from_be_bytes(content)]);
+            if content != self.host.memory[at..at + 8] {
+                self.event("store", &[guest as u64, word, u64::from_be_bytes(content)]);
+            }
         }
     }
 
@@ -413,10 +443,31 @@ impl Generator {
                     continue;
                 }
                 let cpu = self.random.index(self.guest(guest).cpus.len());
+                if self.random.one_in(4) {
+                    self.call_trap((guest, cpu), 0xff, 3, &[group]);
+                }
                 self.call_trap((guest, cpu), 0xff, 0, &[group, major, 0]);
             }
+            self.look_at_new(guest);
             self.prepare_rings(guest);
             self.prepare_sources(guest);
+        }
+    }
+
+    /// After loading all is unset, disabled, idle and 0.
+    fn look_at_new(&mut self, guest: usize) {
+        let cpus = self.guest(guest).cpus.len();
+        for cpu in 0..cpus {
+            let who = (guest, cpu);
+            match self.random.below(6) {
+                0 => self.call(who, 0x103, &[]),
+                1 => {
+                    let queue = 0x3c + self.random.below(4);
+                    self.call(who, 0x15, &[queue]);
+                }
+                2 => self.look_at_any_source(who),
+                _ => (),
+            }
         }
     }
 
@@ -442,10 +493,17 @@ impl Generator {
             0 => self.random.pick(&[0, 3, 4, 1 << 32, 1 << 32 | 1, u64::MAX]),
             // Rarely, because there is no way back from 2.0.
             1 => self.random.pick(&[1, 2]),
-            _ => 1,
+            // Repeating a version changes nothing.
+            _ => Group::numbered(group).map_or(1, |g| self.guest(who.0).major(g).max(1)),
         };
         let minor = self.random.pick(&[0, 0, 1, u64::MAX]);
         self.call_trap(who, 0xff, 0, &[group, major, minor]);
+        match group {
+            1 => self.look_at_queues(who),
+            2 => self.look_at_any_source(who),
+            0x200 => self.call(who, 0x103, &[]),
+            _ => (),
+        }
     }
 
     fn unknown_step(&mut self) {

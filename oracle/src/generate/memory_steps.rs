@@ -64,7 +64,10 @@ impl Generator {
         let who = self.someone();
         let function = self.random.pick(&[0x31, 0x32, 0x32]);
         let (start, size) = self.some_extent(who.0);
-        let mut address = start + 8192 * self.random.below(size / 8192);
+        let mut address = match self.random.one_in(2) {
+            true => start,
+            false => start + 8192 * self.random.below(size / 8192),
+        };
         // To the end of the extent, one page, or too far.
         let mut length = match self.random.below(4) {
             0 => 8192 * self.random.pick(&[1, 2, 3, 4, 5]),
@@ -89,6 +92,11 @@ impl Generator {
             _ => (),
         }
         self.call(who, function, &[address, length]);
+        // The last word of the range, and the first of this or another extent.
+        let last = address.wrapping_add(length).wrapping_sub(8);
+        self.load(who.0, last - last % 8);
+        let (start, _) = self.some_extent(who.0);
+        self.load(who.0, start);
     }
 
     pub(super) fn statistics_step(&mut self) {
@@ -132,6 +140,22 @@ impl Generator {
         if self.random.one_in(4) {
             self.call(who, function, &[ntsb.wrapping_sub(1), pointer]);
         }
+        for _ in 0..self.random.below(6) {
+            self.spoil_list(who, function, ntsb.min(4), pointer - pointer % 8);
+        }
+    }
+
+    /// Another descriptor in one place of a list: with one fault, with two,
+    /// or sound again.
+    fn spoil_list(&mut self, who: (usize, usize), function: u64, ntsb: u64, pointer: u64) {
+        let place = self.random.index_or_last(ntsb as usize) as u64;
+        let mut descriptor = self.sound_descriptor(who.0);
+        for _ in 0..self.random.pick(&[0, 1, 1, 2, 2]) {
+            self.spoil_descriptor(who.0, &mut descriptor);
+        }
+        let at = pointer.wrapping_add(32 * place);
+        self.write(who.0, at, &descriptor.bytes());
+        self.call(who, function, &[ntsb, pointer]);
     }
 
     fn tsb_pointer(&mut self, guest: usize, ntsb: u64) -> u64 {
@@ -176,7 +200,7 @@ impl Generator {
             context_index: 0,
             page_mask: 1 << page_index | above & 0x2b,
             base: first + self.random.below(places) * 16 * entries,
-            reserved: self.random.next(),
+            reserved: self.random.pick(&[0, 0, u64::MAX]),
         }
     }
 
@@ -190,18 +214,16 @@ impl Generator {
             4 => {
                 descriptor.entries = random.pick(&[
                     0,
-                    1,
                     256,
                     511,
                     513,
                     768,
-                    1536,
                     1 << 20,
                     1 << 20,
                     (1 << 20) + 512,
                     1 << 21,
+                    1 << 21,
                     1 << 31,
-                    !0,
                 ]);
                 // Aligned, so that the entries alone decide.
                 if random.one_in(2) {

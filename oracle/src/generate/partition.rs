@@ -43,8 +43,24 @@ type Run = (u64, u64);
 impl Partition {
     /// A sound partition whose host pages all lie in the lent memory.
     pub fn in_memory(random: &mut Random) -> Partition {
-        let runs = runs_in_memory(random);
+        let runs = match random.below(8) {
+            0..=2 => (0..MEMORY_PAGES).map(|page| (page, 1)).collect(),
+            3 => vec![(0, MEMORY_PAGES)],
+            _ => runs_in_memory(random),
+        };
         Partition::over(runs, random)
+    }
+
+    /// A sound partition of which one extent lies behind the lent memory.
+    pub fn reaching_out(random: &mut Random) -> Partition {
+        let mut partition = Partition::in_memory(random);
+        let guest = partition.some_guest(random);
+        let place = random.index_or_last(guest.extents.len());
+        if let Some(extent) = guest.extents.get_mut(place) {
+            let last = HOST_PAGES - extent.pages;
+            extent.host_page = random.pick(&[MEMORY_PAGES, MEMORY_PAGES + 1, last]);
+        }
+        partition
     }
 
     /// A sound partition whose host pages may lie anywhere.
@@ -53,21 +69,14 @@ impl Partition {
         Partition::over(runs, random)
     }
 
-    fn over(mut runs: Vec<Run>, random: &mut Random) -> Partition {
-        random.shuffle(&mut runs);
+    fn over(runs: Vec<Run>, random: &mut Random) -> Partition {
         let most = runs.len().min(4);
-        let count = if random.one_in(2) {
-            most
-        } else {
-            1 + random.index(most)
+        let count = match random.below(5) {
+            0 | 1 => most,
+            2 => 1,
+            _ => 1 + random.index(most),
         };
-        let mut shares: Vec<Vec<Run>> = vec![Vec::new(); count];
-        for (i, run) in runs.into_iter().enumerate() {
-            let share = if i < count { i } else { random.index(count) };
-            if shares[share].len() < 4 {
-                shares[share].push(run);
-            }
-        }
+        let shares = shared_out(runs, count, random);
         let mut names = Vec::new();
         let guests: Vec<Guest> = shares
             .iter()
@@ -104,21 +113,21 @@ impl Partition {
     }
 
     fn spoil(&mut self, random: &mut Random) {
-        match random.below(10) {
+        match random.below(13) {
             0 => self.spoil_header(random),
             1..=3 => self.spoil_count(random),
             4..=6 => self.spoil_extent(random),
-            7 => self.spoil_order(random),
-            8 => self.share_host_page(random),
+            7 | 8 => self.spoil_order(random),
+            9 | 10 => self.share_host_page(random),
             _ => self.name_twice(random),
         }
     }
 
     fn spoil_header(&mut self, random: &mut Random) {
-        if random.one_in(2) {
+        if random.one_in(3) {
             self.edition = random.pick(&[0, 2, 3, 8, 15]);
         } else {
-            self.guest_count = random.pick(&[0, 5, 6, 8, 15]);
+            self.guest_count = random.pick(&[0, 5, 5, 6, 8, 15]);
         }
     }
 
@@ -128,7 +137,7 @@ impl Partition {
             0 => guest.cpus = random.pick(&[0, 9, 10, 15]),
             // With no list behind a count of 0, the count alone is wrong.
             1 if random.one_in(3) => (guest.extent_count, guest.extents) = (0, Vec::new()),
-            1 => guest.extent_count = random.pick(&[0, 5, 6, 7]),
+            1 => guest.extent_count = random.pick(&[0, 5, 5, 6, 7]),
             _ => guest.source_count = random.pick(&[17, 18, 24, 31]),
         }
     }
@@ -136,7 +145,7 @@ impl Partition {
     /// Numbers at and past their bounds; at the bound the image stays sound.
     fn spoil_extent(&mut self, random: &mut Random) {
         let guest = self.some_guest(random);
-        let place = random.index(guest.extents.len());
+        let place = random.index_or_last(guest.extents.len());
         let Some(extent) = guest.extents.get_mut(place) else {
             return;
         };
@@ -158,7 +167,8 @@ impl Partition {
         else {
             return;
         };
-        let [.., first, second] = &mut guest.extents[..] else {
+        let place = random.index_or_last(guest.extents.len().saturating_sub(1));
+        let [first, second, ..] = &mut guest.extents[place..] else {
             return;
         };
         match random.below(5) {
@@ -175,7 +185,7 @@ impl Partition {
             return;
         };
         let guest = self.some_guest(random);
-        let place = random.index(guest.extents.len());
+        let place = random.index_or_last(guest.extents.len());
         let Some(taker) = guest.extents.get_mut(place) else {
             return;
         };
@@ -198,7 +208,7 @@ impl Partition {
         }
         let named = random.pick(&all);
         let guest = self.some_guest(random);
-        let place = random.index(guest.sources.len());
+        let place = random.index_or_last(guest.sources.len());
         let Some(source) = guest.sources.get_mut(place) else {
             return;
         };
@@ -210,7 +220,7 @@ impl Partition {
     }
 
     fn some_guest(&mut self, random: &mut Random) -> &mut Guest {
-        let place = random.index(self.guests.len());
+        let place = random.index_or_last(self.guests.len());
         &mut self.guests[place]
     }
 }
@@ -295,12 +305,34 @@ fn runs_anywhere(random: &mut Random) -> Vec<Run> {
     runs
 }
 
+/// Runs that follow each other may fall to one guest, so that its extents
+/// touch in real and in host pages.
+fn shared_out(mut runs: Vec<Run>, count: usize, random: &mut Random) -> Vec<Vec<Run>> {
+    let in_order = !random.one_in(3);
+    if !in_order {
+        random.shuffle(&mut runs);
+    }
+    let length = runs.len();
+    let mut shares: Vec<Vec<Run>> = vec![Vec::new(); count];
+    for (i, run) in runs.into_iter().enumerate() {
+        let share = match in_order {
+            true => i * count / length,
+            false if i < count => i,
+            false => random.index(count),
+        };
+        if shares[share].len() < 4 {
+            shares[share].push(run);
+        }
+    }
+    shares
+}
+
 fn sound_guest(runs: &[Run], names: &mut Vec<(u64, u64)>, random: &mut Random) -> Guest {
     let extents = sound_extents(runs, random);
-    let count = random.pick(&[0, 1, 1, 2, 3, 4, 6, 16]);
+    let count = random.pick(&[0, 1, 1, 2, 4, 6, 9, 16, 16, 16]);
     let sources: Vec<Source> = (0..count).map(|_| sound_source(names, random)).collect();
     Guest {
-        cpus: random.pick(&[1, 2, 2, 2, 3, 3, 4, 5, 7, 8]),
+        cpus: random.pick(&[1, 2, 2, 3, 3, 4, 5, 7, 8, 8, 8]),
         extent_count: extents.len() as u64,
         source_count: sources.len() as u64,
         extents,
@@ -333,16 +365,15 @@ fn sound_extents(runs: &[Run], random: &mut Random) -> Vec<Extent> {
     extents
 }
 
-/// A name not given before. Parts of names are often shared.
+/// A name not given before. Parts of names are often shared, or one bit apart.
 fn sound_source(names: &mut Vec<(u64, u64)>, random: &mut Random) -> Source {
     loop {
-        let devhandle = match random.below(4) {
-            0 => random.below(1 << 28),
-            _ => random.pick(&[0, 1, 0x100, 0x200, 0x300, 0xfff_ffff]),
-        };
-        let devino = match random.below(2) {
-            0 => random.below(128),
-            _ => random.pick(&[0, 1, 5, 63, 64, 127]),
+        let (devhandle, devino) = match names.last() {
+            Some(&(devhandle, devino)) if random.one_in(4) => match random.one_in(3) {
+                true => (devhandle, devino ^ 1 << random.below(7)),
+                false => (devhandle ^ 1 << random.index_or_last(28), devino),
+            },
+            _ => any_name(random),
         };
         if !names.contains(&(devhandle, devino)) {
             names.push((devhandle, devino));
@@ -354,6 +385,18 @@ fn sound_source(names: &mut Vec<(u64, u64)>, random: &mut Random) -> Source {
             };
         }
     }
+}
+
+fn any_name(random: &mut Random) -> (u64, u64) {
+    let devhandle = match random.below(4) {
+        0 => random.below(1 << 28),
+        _ => random.pick(&[0, 1, 0x100, 0x200, 0x300, 0xfff_ffff]),
+    };
+    let devino = match random.below(2) {
+        0 => random.below(128),
+        _ => random.pick(&[0, 1, 5, 63, 64, 127]),
+    };
+    (devhandle, devino)
 }
 
 /// Writes fields without gaps, most significant bit first.

@@ -83,7 +83,21 @@ impl Generator {
                 let base = around - around % (64 * n);
                 self.call(who, 0x14, &[queue, base, n]);
             }
+            6 => self.call(who, 0x14, &[queue, base, 0]),
             _ => self.configure_well(who, queue),
+        }
+        self.look_at_queues(who);
+    }
+
+    /// What stands in some record of the cpu. A head write to where head is
+    /// leaves it there, and is refused if it is elsewhere.
+    pub(super) fn look_at_queues(&mut self, who: (usize, usize)) {
+        let queue = self.random.index_or_last(4);
+        let number = 0x3c + queue as u64;
+        let record = self.guest(who.0).cpus[who.1].queues[queue];
+        match record {
+            Some(ring) if self.random.one_in(2) => self.head(who, number, ring.head),
+            _ => self.call(who, 0x15, &[number]),
         }
     }
 
@@ -117,7 +131,7 @@ impl Generator {
     }
 
     /// A set ring, rather one that holds entries.
-    fn some_ring(&mut self) -> Option<((usize, usize), u64, Ring)> {
+    pub(super) fn some_ring(&mut self) -> Option<((usize, usize), u64, Ring)> {
         let rings = self.rings();
         let mut found = None;
         for _ in 0..3 {
@@ -160,7 +174,7 @@ impl Generator {
         }
     }
 
-    fn head(&mut self, who: (usize, usize), queue: u64, value: u64) {
+    pub(super) fn head(&mut self, who: (usize, usize), queue: u64, value: u64) {
         let fields = [self.guest_number(who.0), self.cpu_number(who), queue, value];
         self.event("head", &fields);
     }
@@ -206,7 +220,7 @@ impl Generator {
             0 => self
                 .random
                 .pick(&[0, 65, 66, 128, 1 << 32 | 1, 1 << 63, u64::MAX]),
-            1 => self.random.pick(&[63, 64, 20]),
+            1 | 2 => self.random.pick(&[64, 63, 20, 9]),
             _ => 1 + self.random.below(5),
         }
     }
@@ -261,7 +275,7 @@ impl Generator {
 
     fn write_list(&mut self, who: (usize, usize), list: u64, count: u64) {
         let mut entries = self.other_cpus(who, count.min(64));
-        let spoilt = self.random.index(entries.len());
+        let spoilt = self.random.index_or_last(entries.len());
         let caller = who.1 as u16;
         let no_cpu = self.no_cpu(who);
         match self.random.below(12) {

@@ -23,6 +23,15 @@ impl Random {
         self.below(length as u64) as usize
     }
 
+    /// The same, rather the last one: limits that are too low show there.
+    pub fn index_or_last(&mut self, length: usize) -> usize {
+        if self.one_in(4) {
+            length.saturating_sub(1)
+        } else {
+            self.index(length)
+        }
+    }
+
     pub fn one_in(&mut self, n: u64) -> bool {
         self.below(n) == 0
     }

@@ -32,7 +32,7 @@ impl Generator {
     }
 
     /// The call with the number of 2.0, in the form of the guest's version.
-    fn set(&mut self, who: (usize, usize), sysino: usize, function: u64, value: u64) {
+    pub(super) fn set(&mut self, who: (usize, usize), sysino: usize, function: u64, value: u64) {
         let guest = self.guest(who.0);
         let (devhandle, devino) = (
             guest.sources[sysino].devhandle,
@@ -60,13 +60,14 @@ impl Generator {
     }
 
     fn step_by_sysino(&mut self, who: (usize, usize)) {
-        if self.random.one_in(7) {
+        if self.random.one_in(4) {
             let (devhandle, devino) = self.source_name(who.0);
             return self.call(who, 0xa0, &[devhandle, devino]);
         }
         let function = 0xa1 + self.random.below(6);
         let sysino = self.sysino(who.0);
-        let value = self.source_value(who.0, function);
+        let stray = self.random.one_in(6);
+        let value = self.source_value(who.0, function, stray);
         self.call(who, function, &[sysino, value]);
         self.look_at_source(who, function, &[sysino]);
     }
@@ -74,26 +75,44 @@ impl Generator {
     fn step_by_handle(&mut self, who: (usize, usize)) {
         let function = 0xa7 + self.random.below(8);
         let (devhandle, devino) = self.source_name(who.0);
-        let value = self.source_value(who.0, function);
+        let stray = self.random.one_in(6);
+        let value = self.source_value(who.0, function, stray);
         self.call(who, function, &[devhandle, devino, value]);
         self.look_at_source(who, function, &[devhandle, devino]);
     }
 
-    /// After a set often the get, whose number is one lower; after a new
-    /// cookie also whether the source is enabled.
+    /// After a set often the get, whose number is one lower, or the get of
+    /// what has to stay; after a new cookie also whether it is enabled.
     fn look_at_source(&mut self, who: (usize, usize), function: u64, name: &[u64]) {
         let is_set = matches!(function, 0xa2 | 0xa4 | 0xa6 | 0xa8 | 0xaa | 0xac | 0xae);
         if is_set && self.random.one_in(2) {
             self.call(who, function - 1, name);
         }
-        if function == 0xa8 && self.random.one_in(2) {
+        if function == 0xa8 {
             self.call(who, 0xa9, name);
+        }
+        if is_set && self.random.one_in(2) {
+            let get = match function <= 0xa6 {
+                true => self.random.pick(&[0xa1, 0xa3, 0xa5]),
+                false => self.random.pick(&[0xa7, 0xa9, 0xab, 0xad]),
+            };
+            self.call(who, get, name);
         }
     }
 
-    fn sysino(&mut self, guest: usize) -> u64 {
+    /// Any get, of any source, in the form of the guest's version.
+    pub(super) fn look_at_any_source(&mut self, who: (usize, usize)) {
+        let sources = self.guest(who.0).sources.len();
+        if sources > 0 {
+            let sysino = self.random.index_or_last(sources);
+            let get = self.random.pick(&[0xa9, 0xab, 0xad]);
+            self.set(who, sysino, get, 0);
+        }
+    }
+
+    pub(super) fn sysino(&mut self, guest: usize) -> u64 {
         let count = self.guest(guest).sources.len() as u64;
-        let sysino = self.random.below(count);
+        let sysino = self.random.index_or_last(count as usize) as u64;
         match self.random.below(12) {
             0 => self.random.pick(&[
                 count,
@@ -108,7 +127,7 @@ impl Generator {
     }
 
     /// Rather one of the guest's own; else a neighbour's or a missing one.
-    fn source_name(&mut self, guest: usize) -> (u64, u64) {
+    pub(super) fn source_name(&mut self, guest: usize) -> (u64, u64) {
         let all = self.host.tables.guests.len();
         let owner = if self.random.one_in(12) {
             self.random.index(all)
@@ -117,14 +136,14 @@ impl Generator {
         };
         let sources = &self.guest(owner).sources;
         let count = sources.len();
-        let place = self.random.index(count);
+        let place = self.random.index_or_last(count);
         let Some(source) = self.guest(owner).sources.get(place) else {
             return (self.random.pick(&[0, 1, 0x100, 0x200, 0x300]), 5);
         };
         let (devhandle, devino) = (source.devhandle, source.devino);
         match self.random.below(60) {
-            0 => (devhandle, devino ^ 1),
-            1 => (devhandle ^ 1, devino),
+            0 => (devhandle, devino ^ 1 << self.random.below(7)),
+            1 => (devhandle ^ 1 << self.random.below(28), devino),
             2 => (devhandle | 1 << 28, devino),
             3 => (devhandle | 1 << 32, devino),
             4 => (devhandle, devino | 1 << 7),
@@ -135,8 +154,7 @@ impl Generator {
         }
     }
 
-    fn source_value(&mut self, guest: usize, function: u64) -> u64 {
-        let stray = self.random.one_in(6);
+    pub(super) fn source_value(&mut self, guest: usize, function: u64, stray: bool) -> u64 {
         let cpus = self.guest(guest).cpus.len() as u64;
         match function {
             0xa2 | 0xaa if stray => {
@@ -153,7 +171,8 @@ impl Generator {
                 self.random
                     .pick(&[cpus, cpus + 1, 8, 0x100, 1 << 32, 1 << 32 | 1, u64::MAX])
             }
-            0xa6 | 0xae => self.random.below(cpus),
+            0xa6 | 0xae => self.random.index_or_last(cpus as usize) as u64,
+            0xa8 if self.random.one_in(6) => 0,
             0xa8 if stray => self.random.pick(&[0, 0, 1, 2, 0x400, 0x7fe, 0x7ff]),
             _ => self.good_cookie(),
         }
@@ -185,8 +204,8 @@ impl Generator {
             if self.random.one_in(2) {
                 self.load(owner, ring.base.0 + last);
             }
-            if self.random.one_in(8) {
-                let word = 8 * (1 + self.random.below(7));
+            if self.random.one_in(4) {
+                let word = 8 * (1 + self.random.index_or_last(7) as u64);
                 self.load(owner, ring.base.0 + last + word);
             }
             if self.random.one_in(4) {
