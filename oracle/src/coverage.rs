@@ -1,8 +1,9 @@
 //! What a generated session reaches: how often each kind of line answers with
-//! each status.
+//! each status, and which numbers its accepted lines name.
 
 use crate::generate::write_session;
 use crate::model::Event;
+use crate::reach::reach_of;
 use crate::session::{self, parse, Line};
 use std::collections::BTreeMap;
 use std::io::{self, Write};
@@ -11,17 +12,21 @@ use std::io::{self, Write};
 pub type Tally = BTreeMap<(String, String), u64>;
 
 pub fn report(seed: u64, lines: u64, output: &mut impl Write) -> io::Result<()> {
-    for ((kind, status), count) in tally(seed, lines)? {
+    let text = generated(seed, lines)?;
+    for ((kind, status), count) in tally_of(&text)? {
         writeln!(output, "{kind:13} {status:>3} {count:8}")?;
+    }
+    for ((kind, what), numbers) in reach_of(&text) {
+        let numbers: Vec<String> = numbers.iter().map(|n| format!("{n:x}")).collect();
+        writeln!(output, "{kind:13} {what:6} {}", numbers.join(" "))?;
     }
     Ok(())
 }
 
-/// What a generated session reaches.
-pub fn tally(seed: u64, lines: u64) -> io::Result<Tally> {
+pub fn generated(seed: u64, lines: u64) -> io::Result<Vec<u8>> {
     let mut text = Vec::new();
     write_session(seed, lines, &mut text)?;
-    tally_of(&text)
+    Ok(text)
 }
 
 /// What a session reaches.
@@ -41,7 +46,7 @@ pub fn tally_of(text: &[u8]) -> io::Result<Tally> {
 
 /// A call by its trap and function, a head write by its queue, a raise by the
 /// state after it.
-fn kind(line: &[u8], first_value: &str) -> String {
+pub fn kind(line: &[u8], first_value: &str) -> String {
     match parse(line) {
         None => "bad".into(),
         Some(Line::Image(_)) => "image".into(),

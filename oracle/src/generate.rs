@@ -3,6 +3,8 @@
 //! The generator follows its own session with a host, so that it can aim at
 //! the bounds of the state that the session has reached.
 
+mod call_steps;
+mod image_steps;
 mod limit_steps;
 mod malformed;
 mod memory_steps;
@@ -14,8 +16,7 @@ mod source_steps;
 
 use crate::model::Host;
 use crate::session;
-use crate::tables::{Group, Guest, HostOffset, RealAddress};
-use partition::Partition;
+use crate::tables::{Guest, HostOffset, RealAddress};
 use random::Random;
 use std::io::{self, Write};
 
@@ -126,25 +127,6 @@ impl Generator {
         }
     }
 
-    /// A refused image leaves no guest, so that the next finds nothing.
-    fn bad_images(&mut self) {
-        for _ in 0..self.random.below(60) {
-            self.damaged_image();
-            self.blind_events(3);
-        }
-        if self.random.one_in(3) {
-            let partition = Partition::anywhere(&mut self.random);
-            self.image(&partition.pack());
-            self.blind_events(20);
-        }
-        for _ in 0..1 + self.random.below(4) {
-            let partition = Partition::reaching_out(&mut self.random);
-            self.image(&partition.pack());
-            self.event("load", &[0, 0]);
-            self.blind_events(4);
-        }
-    }
-
     /// The last line may end without a line feed, unless it is empty.
     fn end(&mut self) {
         let empty = self.text.len() < 2 || self.text.ends_with(b"\n\n");
@@ -241,84 +223,6 @@ impl Generator {
         let length = fields.len() + self.random.index(10 - fields.len());
         while fields.len() < length {
             fields.push(self.edge_number());
-        }
-    }
-
-    // Images.
-
-    fn image(&mut self, image: &[u8]) {
-        let digits: String = image.iter().map(|byte| format!("{byte:02x}")).collect();
-        let mut line = b"image ".to_vec();
-        let style = self.random.below(4);
-        for (place, digit) in digits.bytes().enumerate() {
-            let space = match style {
-                0 => place % 2 == 0,
-                1 => self.random.one_in(5),
-                _ => false,
-            };
-            if space {
-                line.push(b' ');
-            }
-            line.push(if style == 2 {
-                digit.to_ascii_uppercase()
-            } else {
-                digit
-            });
-        }
-        if self.random.one_in(10) {
-            line = malformed::padded(&line, b' ', session::LINE_LIMIT);
-        }
-        self.emit(&line);
-    }
-
-    fn sound_image(&mut self) {
-        if self.last_image.is_empty() || self.random.one_in(2) {
-            self.last_image = Partition::in_memory(&mut self.random).pack();
-        }
-        self.image(&self.last_image.clone());
-        let guest = self.random.index_or_last(self.host.tables.guests.len());
-        let cpus = self
-            .host
-            .tables
-            .guests
-            .get(guest)
-            .map_or(0, |g| g.cpus.len());
-        self.favourite = (guest, self.random.index_or_last(cpus));
-    }
-
-    fn damaged_image(&mut self) {
-        let partition = match self.random.below(2) {
-            0 => Partition::in_memory(&mut self.random),
-            _ => Partition::anywhere(&mut self.random),
-        };
-        let image = match self.random.below(3) {
-            0 => {
-                let mut image = partition.pack();
-                partition::spoil_bytes(&mut image, &mut self.random);
-                image
-            }
-            1 if self.random.one_in(3) => partition::stub(&mut self.random),
-            _ => partition.damaged(&mut self.random),
-        };
-        self.image(&image);
-    }
-
-    /// Events that do not look at the tables: there may be no guest, or its
-    /// memory may not be lent.
-    fn blind_events(&mut self, most: u64) {
-        for _ in 0..self.random.below(most) {
-            let guest = self.random.pick(&[0, 0, 0, 1, 2, 3, 4, u64::MAX]);
-            let cpuid = self.random.pick(&[0, 0, 1, 8]);
-            match self.random.below(7) {
-                0 => self.event("call", &[guest, cpuid, 0xff, 0, 1, 1, 0]),
-                1 => self.event("call", &[guest, cpuid, 0x80, 0x16]),
-                2 => self.event("head", &[guest, cpuid, 0x3c, 0]),
-                3 => self.event("raise", &[0x100, 5]),
-                4 => self.event("load", &[guest, 0]),
-                5 => self.event("store", &[guest, 8, 0x1234]),
-                _ if self.host.tables.guests.is_empty() => self.event("raise", &[0, 0]),
-                _ => drop(self.raise(0)),
-            }
         }
     }
 
@@ -429,158 +333,6 @@ impl Generator {
                 self.event("store", &[guest as u64, word, u64::from_be_bytes(content)]);
             }
         }
-    }
-
-    // Versions, unknown calls and malformed lines.
-
-    /// Most guests negotiate most groups, in any order; then rings and sources.
-    fn prepare(&mut self) {
-        for guest in 0..self.host.tables.guests.len() {
-            let mut groups = [(0, 1), (1, 1), (2, self.random.pick(&[1, 2])), (0x200, 1)];
-            self.random.shuffle(&mut groups);
-            for (group, major) in groups {
-                if self.random.one_in(12) {
-                    continue;
-                }
-                let cpu = self.random.index(self.guest(guest).cpus.len());
-                if self.random.one_in(4) {
-                    self.call_trap((guest, cpu), 0xff, 3, &[group]);
-                }
-                self.call_trap((guest, cpu), 0xff, 0, &[group, major, 0]);
-            }
-            self.look_at_new(guest);
-            self.prepare_rings(guest);
-            self.prepare_sources(guest);
-        }
-    }
-
-    /// After loading all is unset, disabled, idle and 0.
-    fn look_at_new(&mut self, guest: usize) {
-        let cpus = self.guest(guest).cpus.len();
-        for cpu in 0..cpus {
-            let who = (guest, cpu);
-            match self.random.below(6) {
-                0 => self.call(who, 0x103, &[]),
-                1 => {
-                    let queue = 0x3c + self.random.below(4);
-                    self.call(who, 0x15, &[queue]);
-                }
-                2 => self.look_at_any_source(who),
-                _ => (),
-            }
-        }
-    }
-
-    fn version_step(&mut self) {
-        let who = self.someone();
-        let group = match self.random.below(8) {
-            0 => self.random.pick(&[
-                3,
-                0x100,
-                0x201,
-                0x202,
-                0x300,
-                1 << 32,
-                1 << 32 | 1,
-                u64::MAX,
-            ]),
-            _ => self.random.pick(&[0, 1, 2, 0x200]),
-        };
-        if self.random.one_in(3) {
-            return self.call_trap(who, 0xff, 3, &[group]);
-        }
-        let major = match self.random.below(6) {
-            0 => self.random.pick(&[0, 3, 4, 1 << 32, 1 << 32 | 1, u64::MAX]),
-            // Rarely, because there is no way back from 2.0.
-            1 => self.random.pick(&[1, 2]),
-            // Repeating a version changes nothing.
-            _ => Group::numbered(group).map_or(1, |g| self.guest(who.0).major(g).max(1)),
-        };
-        let minor = self.random.pick(&[0, 0, 1, u64::MAX]);
-        self.call_trap(who, 0xff, 0, &[group, major, minor]);
-        match group {
-            1 => self.look_at_queues(who),
-            2 => self.look_at_any_source(who),
-            0x200 => self.call(who, 0x103, &[]),
-            _ => (),
-        }
-    }
-
-    fn unknown_step(&mut self) {
-        let who = self.someone();
-        let known = self
-            .random
-            .pick(&[0, 3, 0x14, 0x16, 0x42, 0xa1, 0xa7, 0x103]);
-        let argument = self.edge_number();
-        match self.random.below(4) {
-            0 => {
-                let trap =
-                    self.random
-                        .pick(&[0, 0x7f, 0x81, 0xfe, 0x100, 0x180, 0x1_0000_0080, u64::MAX]);
-                self.call_trap(who, trap, known, &[argument]);
-            }
-            1 => {
-                let function =
-                    self.random
-                        .pick(&[1, 2, 4, 5, 0x14, 0xa0, 1 << 32, 1 << 32 | 3, u64::MAX]);
-                self.call_trap(who, 0xff, function, &[1, 1]);
-            }
-            2 => {
-                let function = self.random.pick(&[
-                    0, 3, 0x10, 0x13, 0x17, 0x1f, 0x22, 0x30, 0x33, 0x41, 0x43, 0x9f, 0xaf, 0x101,
-                    0x104,
-                ]);
-                self.call(who, function, &[argument]);
-            }
-            _ => {
-                let wide = self.random.pick(&[1 << 16, 1 << 32, 1 << 63]);
-                self.call(who, known | wide, &[argument]);
-            }
-        }
-    }
-
-    /// Every function with arguments of no plan.
-    fn any_call_step(&mut self) {
-        let who = self.someone();
-        let function = match self.random.below(3) {
-            0 => self
-                .random
-                .pick(&[0x14, 0x15, 0x16, 0x20, 0x21, 0x31, 0x32, 0x42, 0x102, 0x103]),
-            1 => 0xa0 + self.random.below(16),
-            _ => self.random.below(0x110),
-        };
-        let arguments: Vec<u64> = (0..self.random.below(6))
-            .map(|_| self.edge_number())
-            .collect();
-        self.call(who, function, &arguments);
-    }
-
-    fn malformed_step(&mut self) {
-        let line = if self.random.one_in(3) {
-            malformed::special(&mut self.random)
-        } else {
-            self.spoilt_line()
-        };
-        self.emit(&line);
-    }
-
-    fn spoilt_line(&mut self) -> Vec<u8> {
-        let (guest, cpu) = self.someone();
-        let (guest_number, cpu) = (guest as u64, cpu as u64);
-        let address = self.inside(guest, 8);
-        let mut line = match self.random.below(5) {
-            0 => {
-                let fields = [guest_number, cpu, 0x80, 0x14, 0x3c, address, 2, 0, 0];
-                let count = self.random.pick(&[4, 5, 6, 7, 8, 9, 9]);
-                self.line("call", &fields[..count])
-            }
-            1 => self.line("head", &[guest_number, cpu, 0x3c, 0x40]),
-            2 => self.line("raise", &[0x100, 5]),
-            3 => self.line("load", &[guest_number, address]),
-            _ => self.line("store", &[guest_number, address, 0xbad]),
-        };
-        malformed::spoil(&mut line, &mut self.random);
-        line
     }
 }
 

@@ -8,6 +8,7 @@ mod generate;
 mod image;
 mod model;
 mod queues;
+mod reach;
 mod session;
 mod sources;
 mod tables;

@@ -10,8 +10,10 @@ const RING_SIZES: [u64; 12] = [2, 2, 2, 4, 4, 4, 8, 8, 16, 64, 128, 256];
 impl Generator {
     pub(super) fn prepare_rings(&mut self, guest: usize) {
         for cpu in 0..self.guest(guest).cpus.len() {
-            for queue in [0x3c, 0x3d] {
-                if !self.random.one_in(4) {
+            for queue in 0x3c..=0x3f {
+                // Most of those that take entries, few of the others.
+                let rare = self.random.one_in(4);
+                if rare == (queue > 0x3d) {
                     self.configure_well((guest, cpu), queue);
                 }
             }

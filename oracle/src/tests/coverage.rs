@@ -1,7 +1,9 @@
 //! The long session of docs/session, and a generated session, each reach every
-//! status that the paper lists.
+//! status that the paper lists, and the first and last of every number.
 
-use crate::coverage::{tally, tally_of, Tally};
+use crate::coverage::{generated, tally_of, Tally};
+use crate::reach::{reach_of, Reach};
+use std::ops::Range;
 
 /// The statuses of each kind of line, without those of the entry.
 const LISTED: [(&str, &str); 41] = [
@@ -61,20 +63,99 @@ const ENTRY: [(&str, &str); 5] = [
 /// break a rule. A scrub of more than 32,768 bytes has no status of its own.
 const NOT_SHOWN: [&str; 1] = ["65"];
 
+/// The numbers of guests, cpus and the like that the accepted lines of a
+/// generated session name, besides guest and cpu of every call and head write.
+const NUMBERS: [(&str, &str, Range<usize>); 21] = [
+    ("call 80/14", "queue", 0..4),
+    ("call 80/15", "queue", 0..4),
+    ("call 80/14", "extent", 0..4),
+    ("call 80/20", "extent", 0..4),
+    ("call 80/21", "extent", 0..4),
+    ("call 80/31", "extent", 0..4),
+    ("call 80/32", "extent", 0..4),
+    ("call 80/42", "extent", 0..4),
+    ("call 80/42", "target", 0..8),
+    ("call 80/102", "extent", 0..4),
+    ("call 80/a6", "target", 0..8),
+    ("call 80/ae", "target", 0..8),
+    ("load", "guest", 0..4),
+    ("load", "extent", 0..4),
+    ("store", "guest", 0..4),
+    ("store", "extent", 0..4),
+    ("raise to 1", "guest", 0..4),
+    ("raise to 1", "source", 0..16),
+    ("raise to 2", "guest", 0..4),
+    ("raise to 2", "source", 0..16),
+    ("raise to 2", "target", 0..8),
+];
+
+/// Those of the long session.
+const WRITTEN: [(&str, &str, Range<usize>); 15] = [
+    ("call 80/14", "cpu", 0..8),
+    ("call 80/14", "queue", 0..4),
+    ("call 80/14", "extent", 0..4),
+    ("call 80/32", "extent", 0..4),
+    ("call 80/42", "target", 1..8),
+    ("call 80/102", "cpu", 0..8),
+    ("call 80/103", "cpu", 0..8),
+    ("call 80/a2", "source", 0..16),
+    ("call 80/a6", "source", 0..16),
+    ("call 80/a6", "target", 0..8),
+    ("load", "guest", 0..4),
+    ("load", "extent", 0..4),
+    ("store", "extent", 0..4),
+    ("raise to 2", "guest", 3..4),
+    ("raise to 2", "source", 13..16),
+];
+
 #[test]
 fn the_long_session_reaches_every_status() {
     let session = include_bytes!("../../../crates/chaldrev/stdin");
     check(&tally_of(session).expect("memory"));
+    let reach = reach_of(session);
+    for (kind, what, numbers) in WRITTEN {
+        check_numbers(&reach, kind, what, numbers);
+    }
 }
 
 #[test]
 fn a_generated_session_reaches_every_status() {
-    let tally = tally(1, 200_000).expect("memory");
+    let session = generated(1, 200_000).expect("memory");
+    let tally = tally_of(&session).expect("memory");
     check(&tally);
     for (kind, _) in LISTED {
         let named = !matches!(word(kind), "image" | "bad" | "raise");
         assert!(!named || seen(&tally, kind, "67"), "{kind} never 67");
     }
+}
+
+#[test]
+fn a_generated_session_reaches_every_number() {
+    let reach = reach_of(&generated(1, 200_000).expect("memory"));
+    for (kind, statuses) in LISTED {
+        if matches!(word(kind), "call" | "head") && statuses.starts_with('0') {
+            check_numbers(&reach, kind, "guest", 0..4);
+            check_numbers(&reach, kind, "cpu", 0..8);
+        }
+    }
+    for function in 0xa0..=0xae {
+        check_numbers(&reach, &format!("call 80/{function:x}"), "source", 0..16);
+    }
+    for (kind, what, numbers) in NUMBERS {
+        check_numbers(&reach, kind, what, numbers);
+    }
+}
+
+/// All of these numbers, and none behind them.
+fn check_numbers(reach: &Reach, kind: &str, what: &'static str, numbers: Range<usize>) {
+    let reached = reach.get(&(kind.to_owned(), what));
+    let end = numbers.end;
+    for number in numbers {
+        let found = reached.is_some_and(|r| r.contains(&number));
+        assert!(found, "{kind} never names {what} {number}");
+    }
+    let behind = reached.and_then(|r| r.range(end..).next());
+    assert_eq!(behind, None, "{kind} is accepted for another {what}");
 }
 
 fn check(tally: &Tally) {
