@@ -68,7 +68,8 @@ impl Generator {
                     257,
                     258,
                     512,
-                    1 << 32,
+                    1 << 32 | 2,
+                    1 << 32 | 16,
                     1 << 58,
                     1 << 63,
                     u64::MAX,
@@ -76,6 +77,8 @@ impl Generator {
                 self.call(who, 0x14, &[queue, base, n]);
             }
             3 => {
+                let n = self.random.pick(&[n, n, 256]);
+                let base = self.ring_base(who.0, 64 * n);
                 let off = self.random.pick(&[1, 8, 32, 64, 32 * n, 64 * n - 64]);
                 self.call(who, 0x14, &[queue, base.wrapping_add(off), n]);
             }
