@@ -80,7 +80,7 @@ too-long : whyBad (replicate 2049 0x30) ≡ some TooLong
 unfolding whyBad
 too-long = refl
 
-slip : Explains "call 0 0 80 a8 200 5 800" "6 0 0 0 0\n" "6 EINVAL: a number that is not allowed here, or a source that is not the caller's"
+slip : Explains "call 0 0 80 a8 200 5 800" "6 0 0 0 0\n" "6 EINVAL: a bad number, or a source that is not the caller's"
 unfolding explaining
 slip = refl
 

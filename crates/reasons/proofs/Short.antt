@@ -1,12 +1,13 @@
 -- A reason has at most 120 bytes, its line feed included.
 use mathlib.Core.Bool.{Bool, true, false, _&&_}
-use mathlib.Core.Path.{_≡_, refl}
+use mathlib.Core.Path.{_≡_, refl, sym}
 use mathlib.Core.List.{List, [], _∷_, _++_}
 use mathlib.Core.Option.{Option, none, some}
 use Prim.Native.Nat.{ℕ, _+_, _≤_}
 use native.Mathlib.Omega.{arith}
 use lib.Dec.{leb, eqb}
-use lib.ListN.{length, length-append}
+use lib.ListN.{length, take, length-append}
+use lib.Seq.{length-take-le, length-sets}
 use borrow.Author.Tests.{leb-true}
 use Rattle.rules.specs.Rulings.{if_then_else_}
 use Rattle.rules.specs.Text.{badWord, same, pieces, field}
@@ -20,6 +21,7 @@ use Rattle.reasons.specs.declared.fault.Why.{Why}
 use Rattle.reasons.specs.declared.fault.Why.the-variants.{Good, Bad}
 use Rattle.reasons.specs.Faults.{whyBad}
 use Rattle.reasons.specs.Told.{told}
+use Rattle.reasons.specs.Put.{Put}
 use Rattle.reasons.specs.Words.{Meaning, meanings, meaningIn, decimal, form, faultText, whyText, statusText, unfed, firstOf, reasonBy, reason}
 use Rattle.reasons.proofs.PutLaws.{decimal-most}
 
@@ -81,3 +83,11 @@ reason-short line answer = rw length-append (go (same text badWord))
     go : (t : Bool) → length (if t then whyText (told (whyBad line)) else statusText (field text)) + 1 ≤ 120
     go true = omega (arith, why-short (told (whyBad line)))
     go false = omega (arith, status-short (field text))
+
+-- so it has room, and the front of the array that holds it can be lent
+module _ (line answer m o : List ℕ) (r : ℕ) (p : Put m o 0 r (reason line answer)) (l : length m ≡ 256) where
+  pub reason-fits : r ≤ length o
+  reason-fits = rw (p .bytes, length-sets) (omega (arith, p .behind, reason-short line answer))
+
+  pub reason-taken : r ≡ length (take r o)
+  reason-taken = sym (length-take-le r o reason-fits)

@@ -34,7 +34,7 @@ meanings =
     ∷ 2 means "2 ENORADDR: an address or range that is not in one extent of the guest's own memory"
     ∷ 4 means "4 EBADPGSZ: a page index or page mask that no descriptor may have"
     ∷ 5 means "5 EBADTSB: an associativity or number of entries that no descriptor may have"
-    ∷ 6 means "6 EINVAL: a number that is not allowed here, or a source that is not the caller's"
+    ∷ 6 means "6 EINVAL: a bad number, or a source that is not the caller's"
     ∷ 7 means "7 EBADTRAP: no such call, or its group is not negotiated (a7 to ae: not at 2.0)"
     ∷ 8 means "8 EBADALIGN: an address or number that is not aligned"
     ∷ 9 means "9 EWOULDBLOCK: not every cpu of the list had room; the entries of those served read ffff"

@@ -62,7 +62,7 @@ pub fn put_meaning(status: u64, out: &mut [u8; ROOM]) -> usize
             out,
         ),
         6 => put_text(
-            b"6 EINVAL: a number that is not allowed here, or a source that is not the caller's\n",
+            b"6 EINVAL: a bad number, or a source that is not the caller's\n",
             0,
             out,
         ),

@@ -3,10 +3,11 @@ use mathlib.Core.Path.{_≡_, refl, sym, ap, subst, _∙_}
 use mathlib.Core.Bool.{Bool, true, false}
 use mathlib.Core.List.{List, [], _∷_, _++_, append-assoc, append-nil}
 use Prim.Native.Nat.{ℕ, _+_, _-_, _<_, _≤_, min}
+use native.Mathlib.Numerals.{add-one}
 use native.Mathlib.Omega.{arith}
 use lib.Dec.{eqb, ltb}
-use lib.ListN.{length, take, drop, length-drop, take-append-drop, drop-of-length-le}
-use lib.Seq.{drop-drop, take-all}
+use lib.ListN.{length, getD, take, drop, length-drop, take-append-drop, drop-of-length-le}
+use lib.Seq.{drop-cons, drop-drop, take-all}
 use borrow.Author.Tests.{ltb-true}
 use Rattle.rules.specs.Rulings.{if_then_else_}
 use Rattle.rules.specs.Text.{parse, lineFeed}
@@ -119,3 +120,30 @@ pub none-left : (feeder after : Feeder) (memory memory′ piece : List ℕ) (fro
     → unprinted (fed (taken-up after memory′) (drop from piece)) ≡ unprinted (fed (taken-up feeder memory) piece) → AllFed feeder memory piece after memory′
 unfolding fed
 none-left feeder after memory memory′ piece from h e = rw (drop-of-length-le piece {i = from} h) at e
+
+-- a part that has been fed whole, and what stands behind it
+pub fed-behind : (feeder after : Feeder) (memory memory′ part behind : List ℕ) → AllFed feeder memory part after memory′
+    → unprinted (fed (taken-up after memory′) behind) ≡ unprinted (fed (taken-up feeder memory) (part ++ behind))
+fed-behind feeder after memory memory′ part behind e =
+    rw e (fed-unprinted (fed (taken-up feeder memory) part) behind) ∙ ap unprinted (sym (fed-append part behind (taken-up feeder memory)))
+
+-- the end of a line, by itself
+pub end-fed : (feeder : Feeder) (memory out : List ℕ) (r : Fed) (m w : List ℕ) → 96 ≤ length out
+    → Feeds (feedOf feeder memory (lineFeed ∷ []) out) (room (lineFeed ∷ []) out) out r m w → AllFed feeder memory (lineFeed ∷ []) (r .feeder) m
+end-fed feeder memory out r m w l f = none-left feeder (r .feeder) memory m (lineFeed ∷ []) (r .taken) (omega (arith, f .taken)) (fed-on feeder memory (lineFeed ∷ []) out r m w f)
+
+-- a piece in parts: what stands from a place on is a part and what stands behind it
+pub step-fed : (whole : Progress) (piece part : List ℕ) (from to : ℕ) (feeder after : Feeder) (memory memory′ : List ℕ) → unprinted (fed (taken-up feeder memory) (drop from piece)) ≡ whole
+    → AllFed feeder memory part after memory′ → drop from piece ≡ part ++ drop to piece → unprinted (fed (taken-up after memory′) (drop to piece)) ≡ whole
+step-fed whole piece part from to feeder after memory memory′ rest f e =
+    fed-behind feeder after memory memory′ part (drop to piece) f ∙ ap (λ (bs : List ℕ). unprinted (fed (taken-up feeder memory) bs)) (sym e) ∙ rest
+
+-- the part is a line feed
+pub end-split : (piece : List ℕ) (from : ℕ) → from < length piece → getD piece from 0 ≡ lineFeed → drop from piece ≡ (lineFeed ∷ []) ++ drop (from + 1) piece
+end-split piece from h e = rw (add-one from, drop-cons piece from 0 h, e)
+
+-- the part goes to another place
+pub part-split : (piece : List ℕ) (from to : ℕ) → from ≤ to → drop from piece ≡ take (to - from) (drop from piece) ++ drop to piece
+part-split piece from to h =
+    let e : from + (to - from) ≡ to = omega arith in
+    sym (take-append-drop (to - from) (drop from piece)) ∙ ap (λ (bs : List ℕ). take (to - from) (drop from piece) ++ bs) (drop-drop (to - from) from piece ∙ ap (λ (k : ℕ). drop k piece) e)

@@ -5,6 +5,7 @@ mod reply;
 
 pub use feeder::Fed;
 pub use feeder::Feeder;
+pub use feeder::LINE;
 pub use feeder::begin;
 pub use feeder::feed;
 pub use feeder::finish;

@@ -1,4 +1,4 @@
--- `chaldrev::answer_piece` loses no byte: what is left of the piece comes, from where the session stands, to what the whole comes to.
+-- `console::plain::answer_piece` loses no byte: what is left of the piece comes, from where the session stands, to what the whole comes to.
 use mathlib.Core.Path.{_≡_, refl}
 use Prim.Native.Nat.{ℕ, _≤_, _-_}
 use native.Mathlib.Omega.{arith}
@@ -7,8 +7,8 @@ use Rattle.session.specs.Feeding.{unprinted, fed, taken-up}
 use Rattle.session.proofs.Fits.{written-fits, written-taken}
 use Rattle.session.proofs.InParts.{more-fed, more-within, more-taken, none-left}
 use borrow.Author.Needs.{needs}
-use Rattle.chaldrev.proofs.answer_piece.Statement.{statement}
-use Rattle.chaldrev.proofs.answer_piece.Tie as tie
+use Rattle.console.proofs.plain.answer_piece.Statement.{statement}
+use Rattle.console.proofs.plain.answer_piece.Tie as tie
 
 abbrev Inv-loop : tie.InvT-loop
 Inv-loop mem₀ piece out₀ left₀ from₀ mem out left from =
@@ -38,14 +38,14 @@ feed-requires c κs = search needs
 add-from : tie.Need-add-from Inv-loop μ-loop
 add-from c = omega arith
 
-slice-reshare-prefix-write-answers : tie.Need-slice-reshare-prefix-write-answers Inv-loop μ-loop
-slice-reshare-prefix-write-answers c = written-fits _ _ _ _ _ _ _ _ (c .before .before .before .before .before .before .feed .ensures)
+slice-reshare-prefix-write-text : tie.Need-slice-reshare-prefix-write-text Inv-loop μ-loop
+slice-reshare-prefix-write-text c = written-fits _ _ _ _ _ _ _ _ (c .before .before .before .before .before .before .feed .ensures)
 
-slice-aggregate-write-answers : tie.Need-slice-aggregate-write-answers Inv-loop μ-loop
-slice-aggregate-write-answers c = written-taken _ _ _ _ _ _ _ _ (c .before .before .before .before .before .before .before .feed .ensures)
+slice-aggregate-write-text : tie.Need-slice-aggregate-write-text Inv-loop μ-loop
+slice-aggregate-write-text c = written-taken _ _ _ _ _ _ _ _ (c .before .before .before .before .before .before .before .feed .ensures)
 
-write-answers-requires : tie.Need-write-answers-requires Inv-loop μ-loop
-write-answers-requires c κs = search needs
+write-text-requires : tie.Need-write-text-requires Inv-loop μ-loop
+write-text-requires c κs = search needs
 
 same-length : tie.Need-same-length Inv-loop μ-loop
 same-length c = search needs
@@ -88,9 +88,9 @@ answer-piece-spec =
     part-feed-end
     feed-requires
     add-from
-    slice-reshare-prefix-write-answers
-    slice-aggregate-write-answers
-    write-answers-requires
+    slice-reshare-prefix-write-text
+    slice-aggregate-write-text
+    write-text-requires
     same-length
     same-length-2
     returns

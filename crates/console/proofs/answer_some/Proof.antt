@@ -1,8 +1,8 @@
--- `chaldrev::answer_some` is safe: the bytes that came lie in the buffer.
+-- `console::answer_some` is safe: the bytes that came lie in the buffer.
 use borrow.Author.Needs.{needs}
 use Rattle.stream.proofs.GotLaws.{told-counts}
-use Rattle.chaldrev.proofs.answer_some.Statement.{statement}
-use Rattle.chaldrev.proofs.answer_some.Tie as tie
+use Rattle.console.proofs.answer_some.Statement.{statement}
+use Rattle.console.proofs.answer_some.Tie as tie
 
 slice-aggregate-read-some : tie.Need-slice-aggregate-read-some
 slice-aggregate-read-some c = search needs

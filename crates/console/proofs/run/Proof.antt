@@ -1,16 +1,16 @@
--- `chaldrev::answer_all` is safe, and ends: the turns that are left fall.
+-- `console::run` is safe, and ends: the turns that are left fall.
 use mathlib.Core.Path.{_≡_, refl}
 use lib.ListN.{length}
 use native.Mathlib.Omega.{arith}
 use borrow.Author.Needs.{needs}
-use Rattle.chaldrev.proofs.answer_all.Statement.{statement}
-use Rattle.chaldrev.proofs.answer_all.Tie as tie
+use Rattle.console.proofs.run.Statement.{statement}
+use Rattle.console.proofs.run.Tie as tie
 
 abbrev Inv-loop : tie.InvT-loop
-Inv-loop mem₀ input₀ out₀ feeder₀ turns₀ mem input out feeder turns = (length mem ≡ length mem₀) × (length input ≡ length input₀) × (length out ≡ length out₀)
+Inv-loop mode mem₀ input₀ out₀ feeder₀ turns₀ mem input out feeder turns = (length mem ≡ length mem₀) × (length input ≡ length input₀) × (length out ≡ length out₀)
 
 abbrev μ-loop : tie.MeasureT-loop
-μ-loop mem₀ input₀ out₀ feeder₀ turns₀ mem input out feeder turns = turns
+μ-loop mode mem₀ input₀ out₀ feeder₀ turns₀ mem input out feeder turns = turns
 
 begin-requires : tie.Need-begin-requires Inv-loop μ-loop
 begin-requires c κs = search needs
@@ -36,8 +36,8 @@ loop-again c = search needs
 enum-told-2 : tie.Need-enum-told-2 Inv-loop μ-loop
 enum-told-2 c = search needs
 
-answer-last-requires : tie.Need-answer-last-requires Inv-loop μ-loop
-answer-last-requires c κs = search needs
+answer-end-requires : tie.Need-answer-end-requires Inv-loop μ-loop
+answer-end-requires c κs = search needs
 
 same-length : tie.Need-same-length Inv-loop μ-loop
 same-length c = search needs
@@ -78,8 +78,8 @@ same-length-9 c = search needs
 returns-3 : tie.Need-returns-3 Inv-loop μ-loop
 returns-3 c = search needs
 
-pub answer-all-spec : {M : Type 1} → statement M
-answer-all-spec =
+pub run-spec : {M : Type 1} → statement M
+run-spec =
     tie.close
     (tie.spec
     Inv-loop
@@ -92,7 +92,7 @@ answer-all-spec =
     loop-less
     loop-again
     enum-told-2
-    answer-last-requires
+    answer-end-requires
     same-length
     same-length-2
     same-length-3
