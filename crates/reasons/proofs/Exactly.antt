@@ -75,7 +75,7 @@ fields-exactly : (word : Word) (n : ℕ) (texts : List (List ℕ)) → isSome (w
 unfolding whyFields fields
 fields-exactly word n [] = rw (add-zero n) (count-exactly word n)
 fields-exactly word n (text ∷ texts) =
-    field-exactly (suc n) text (whyFields word (suc n) texts) ∙ go (field text) (fields texts) (fields-exactly word (suc n) texts)
+    field-exactly _ text (whyFields word (suc n) texts) ∙ go (field text) (fields texts) (fields-exactly word (suc n) texts)
   where
     go : (o : Option ℕ) (p : Option (List ℕ)) → isSome (whyFields word (suc n) texts) ≡ misfit word (suc n) p
         → (if isSome o then isSome (whyFields word (suc n) texts) else true) ≡ misfit word n (consed o p)

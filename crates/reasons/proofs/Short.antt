@@ -10,7 +10,7 @@ use lib.ListN.{length, take, length-append}
 use lib.Seq.{length-take-le, length-sets}
 use borrow.Author.Tests.{leb-true}
 use Rattle.rules.specs.Rulings.{if_then_else_}
-use Rattle.rules.specs.Text.{badWord, same, pieces, field}
+use Rattle.rules.specs.Text.{badWord, same, field}
 use Rattle.rules.proofs.Tests.{and-left, and-right}
 use Rattle.rules.proofs.WorkedText.{bytesOf}
 use Rattle.reasons.specs.declared.fault.Word.{Word}
@@ -22,7 +22,7 @@ use Rattle.reasons.specs.declared.fault.Why.the-variants.{Good, Bad}
 use Rattle.reasons.specs.Faults.{whyBad}
 use Rattle.reasons.specs.Told.{told}
 use Rattle.reasons.specs.Put.{Put}
-use Rattle.reasons.specs.Words.{Meaning, meanings, meaningIn, decimal, form, faultText, whyText, statusText, unfed, firstOf, reasonBy, reason}
+use Rattle.reasons.specs.Words.{Meaning, meanings, meaningIn, decimal, form, faultText, whyText, statusText, unfed, firstPiece, reasonBy, reason}
 use Rattle.reasons.proofs.PutLaws.{decimal-most}
 
 abbrev Short : List ℕ → Type 0
@@ -78,7 +78,7 @@ unfolding reason reasonBy
 reason-short line answer = rw length-append (go (same text badWord))
   where
     text : List ℕ
-    text = firstOf (pieces [] (unfed answer))
+    text = firstPiece (unfed answer)
 
     go : (t : Bool) → length (if t then whyText (told (whyBad line)) else statusText (field text)) + 1 ≤ 120
     go true = omega (arith, why-short (told (whyBad line)))

@@ -10,14 +10,13 @@ use lib.ListN.{length, take, drop}
 use lib.Seq.{take-length}
 use borrow.Author.Tests.{eq-eqb, ne-eqb}
 use Rattle.rules.proofs.WorkedText.{bytesOf}
-use Rattle.rules.specs.Text.{lineFeed, badWord, same, pieces, field}
+use Rattle.rules.specs.Text.{lineFeed, badWord, same, field}
 use Rattle.text.specs.declared.number.Number.{Number}
 use Rattle.text.specs.Pieces.{firstLength, numberOr}
-use Rattle.text.proofs.PieceLaws.{pieces-split}
 use Rattle.reasons.specs.declared.fault.Why.{Why}
 use Rattle.reasons.specs.Faults.{lastByte, whyBad}
 use Rattle.reasons.specs.Told.{told}
-use Rattle.reasons.specs.Words.{Meaning, meaningIn, meaning, noMeaning, whyText, statusText, unfed, firstOf, fed, reasonBy, reason}
+use Rattle.reasons.specs.Words.{Meaning, meaningIn, meaning, noMeaning, whyText, statusText, unfed, firstPiece, fed, reasonBy, reason}
 use Rattle.reasons.specs.Put.{Put}
 use Rattle.reasons.proofs.FieldLaws.{tells-bad, tells-is}
 
@@ -64,10 +63,10 @@ module _ (line text m o : List ℕ) (r : ℕ) (t : Bool) (p : t ≡ same text ba
 
 -- the first piece, as the code cuts it out
 pub first-piece : (line text m o : List ℕ) (r end : ℕ) → end ≡ 0 + firstLength (drop 0 text)
-    → Put m o 0 r (fed (reasonBy line (take end text))) → Put m o 0 r (fed (reasonBy line (firstOf (pieces [] text))))
+    → Put m o 0 r (fed (reasonBy line (take end text))) → Put m o 0 r (fed (reasonBy line (firstPiece text)))
 first-piece line text m o r end e p =
     let k : end ≡ firstLength text = e ∙ zero-add _ in
-    rw (pieces-split text, ← k) p
+    rw (← k) p
 
 -- an answer's line feed
 pub some-byte : (s : List ℕ) (b : ℕ) → b ≡ lastByte s → b ≡ lineFeed → 1 ≤ length s
@@ -84,6 +83,6 @@ unfolding unfed
 without-feed s b e f = (rw (ne-eqb (lastByte s) lineFeed (λ z. f (e ∙ z)), take-length s), omega arith)
 
 pub whole-reason : (line answer m o : List ℕ) (r end : ℕ) → take end answer ≡ unfed answer
-    → Put m o 0 r (fed (reasonBy line (firstOf (pieces [] (take end answer))))) → Put m o 0 r (reason line answer)
+    → Put m o 0 r (fed (reasonBy line (firstPiece (take end answer)))) → Put m o 0 r (reason line answer)
 unfolding reason
 whole-reason line answer m o r end e p = rw (← e) p

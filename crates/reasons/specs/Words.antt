@@ -7,7 +7,8 @@ use lib.Dec.{ltb, eqb}
 use lib.ListN.{length, take}
 use Rattle.rules.proofs.WorkedText.{bytesOf}
 use Rattle.rules.specs.Rulings.{if_then_else_}
-use Rattle.rules.specs.Text.{lineFeed, badWord, same, pieces, field}
+use Rattle.rules.specs.Text.{lineFeed, badWord, same, field}
+use Rattle.text.specs.Pieces.{firstLength}
 use Rattle.reasons.specs.declared.fault.Word.{Word}
 use Rattle.reasons.specs.declared.fault.Word.the-variants.{Call, Head, Raise, Load, Store}
 use Rattle.reasons.specs.declared.fault.Fault.{Fault}
@@ -38,7 +39,7 @@ meanings =
     ∷ 7 means "7 EBADTRAP: no such call, or its group is not negotiated (a7 to ae: not at 2.0)"
     ∷ 8 means "8 EBADALIGN: an address or number that is not aligned"
     ∷ 9 means "9 EWOULDBLOCK: not every cpu of the list had room; the entries of those served read ffff"
-    ∷ 13 means "d (13) ENOTSUPPORTED: a version that is not offered, a call that 2.0 has not, or a source without cookies"
+    ∷ 13 means "d (13) ENOTSUPPORTED: a version that is not offered, a call that is not in 2.0, or a source without cookies"
     ∷ 101 means "65 (101): tables that break a rule"
     ∷ 102 means "66 (102): memory too short for the guests' pages"
     ∷ 103 means "67 (103): no such guest or cpu"
@@ -93,13 +94,12 @@ unfoldable pub statusText : Option ℕ → List ℕ
 statusText none = bytesOf noMeaning
 statusText (some status) = meaning status
 
--- an answer without its line feed, and its first piece
+-- an answer without its line feed
 unfoldable pub unfed : List ℕ → List ℕ
 unfed answer = if eqb (lastByte answer) lineFeed then take (length answer - 1) answer else answer
 
-abbrev pub firstOf : List (List ℕ) → List ℕ
-firstOf [] = []
-firstOf (text ∷ texts) = text
+abbrev pub firstPiece : List ℕ → List ℕ
+firstPiece text = take (firstLength text) text
 
 -- with a line feed behind it
 abbrev pub fed : List ℕ → List ℕ
@@ -111,4 +111,4 @@ reasonBy line text = if same text badWord then whyText (told (whyBad line)) else
 
 -- the line of text that explains what the session printed for a line
 unfoldable pub reason : List ℕ → List ℕ → List ℕ
-reason line answer = fed (reasonBy line (firstOf (pieces [] (unfed answer))))
+reason line answer = fed (reasonBy line (firstPiece (unfed answer)))

@@ -1,10 +1,9 @@
 // The reason for what the session printed for a line.
 ghost use mathlib.Core.Path.{_≡_};
-ghost use mathlib.Core.List.{[]};
 ghost use Prim.Native.Nat.{_≤_};
 ghost use lib.ListN.{length, take};
-ghost use Rattle.rules.specs.Text.{pieces, field};
-ghost use Rattle.reasons.specs.Words.{statusText, unfed, firstOf, fed, reasonBy, reason};
+ghost use Rattle.rules.specs.Text.{field};
+ghost use Rattle.reasons.specs.Words.{statusText, unfed, firstPiece, fed, reasonBy, reason};
 ghost use Rattle.reasons.specs.Put.{Put};
 use crate::line::last_byte;
 use crate::line::why_bad;
@@ -48,11 +47,11 @@ fn unfed_end(answer: &[u8]) -> usize
     answer.len()
 }
 
-fn put_reason_of(line: &[u8], answer: &[u8], out: &mut [u8; ROOM]) -> usize
-    ensures { λ r. ⌜ Put (now (out .entry)) (now (out .exit)) 0 r (fed (reasonBy (now (line .entry)) (firstOf (pieces [] (now (answer .entry)))))) ⌝ }
+fn put_reason_of(line: &[u8], text: &[u8], out: &mut [u8; ROOM]) -> usize
+    ensures { λ r. ⌜ Put (now (out .entry)) (now (out .exit)) 0 r (fed (reasonBy (now (line .entry)) (firstPiece (now (text .entry))))) ⌝ }
 {
-    let end = piece_end(answer, 0);
-    put_reason_by(line, &answer[..end], out)
+    let end = piece_end(text, 0);
+    put_reason_by(line, &text[..end], out)
 }
 
 // Writes to the front of out why the session answered a line so, with a line feed, and gives the number of bytes it wrote. The line

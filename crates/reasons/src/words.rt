@@ -12,11 +12,21 @@ use crate::put::ROOM;
 use crate::put::put_decimal;
 use crate::put::put_text;
 
-// What a status of the paper's own means: those behind the tenth of the table.
-fn put_own_meaning(status: u64, out: &mut [u8; ROOM]) -> usize
-    ensures { λ r. ⌜ Put (now (out .entry)) (now (out .exit)) 0 r (fed (bytesOf (meaningIn (drop 10 meanings) status))) ⌝ }
+// What a status means: those behind the eighth of the table.
+fn put_later_meaning(status: u64, out: &mut [u8; ROOM]) -> usize
+    ensures { λ r. ⌜ Put (now (out .entry)) (now (out .exit)) 0 r (fed (bytesOf (meaningIn (drop 8 meanings) status))) ⌝ }
 {
     match status {
+        9 => put_text(
+            b"9 EWOULDBLOCK: not every cpu of the list had room; the entries of those served read ffff\n",
+            0,
+            out,
+        ),
+        13 => put_text(
+            b"d (13) ENOTSUPPORTED: a version that is not offered, a call that is not in 2.0, or a source without cookies\n",
+            0,
+            out,
+        ),
         101 => put_text(b"65 (101): tables that break a rule\n", 0, out),
         102 => put_text(
             b"66 (102): memory too short for the guests' pages\n",
@@ -76,17 +86,7 @@ pub fn put_meaning(status: u64, out: &mut [u8; ROOM]) -> usize
             0,
             out,
         ),
-        9 => put_text(
-            b"9 EWOULDBLOCK: not every cpu of the list had room; the entries of those served read ffff\n",
-            0,
-            out,
-        ),
-        13 => put_text(
-            b"d (13) ENOTSUPPORTED: a version that is not offered, a call that 2.0 has not, or a source without cookies\n",
-            0,
-            out,
-        ),
-        _ => put_own_meaning(status, out),
+        _ => put_later_meaning(status, out),
     }
 }
 

@@ -1,4 +1,4 @@
--- `fields::why_fields` meets its contract. The invariant: what is wrong with the fields behind `at`, after count others, is what is wrong with all.
+-- `fields::why_fields` meets its contract. The invariant: the fields behind `at`, after count others, have the fault of all fields.
 use mathlib.Core.Path.{_≡_, refl}
 use Prim.Native.Nat.{_-_, _≤_}
 use lib.ListN.{length, drop}

@@ -61,20 +61,8 @@ slice-aggregate-put-text-8 c = search needs
 put-text-requires-8 : tie.Need-put-text-requires-8
 put-text-requires-8 c κs = search needs
 
-slice-aggregate-put-text-9 : tie.Need-slice-aggregate-put-text-9
-slice-aggregate-put-text-9 c = search needs
-
-put-text-requires-9 : tie.Need-put-text-requires-9
-put-text-requires-9 c κs = search needs
-
-slice-aggregate-put-text-10 : tie.Need-slice-aggregate-put-text-10
-slice-aggregate-put-text-10 c = search needs
-
-put-text-requires-10 : tie.Need-put-text-requires-10
-put-text-requires-10 c κs = search needs
-
-put-own-meaning-requires : tie.Need-put-own-meaning-requires
-put-own-meaning-requires c κs = search needs
+put-later-meaning-requires : tie.Need-put-later-meaning-requires
+put-later-meaning-requires c κs = search needs
 
 returns : tie.Need-returns
 unfolding meanings meaningIn bytesOf
@@ -109,16 +97,8 @@ unfolding meanings meaningIn bytesOf
 returns-8 c = put-at said _ 8 _ _ _ _ (c .before .before .before .match .keys8) (c .put-text8 .ensures)
 
 returns-9 : tie.Need-returns-9
-unfolding meanings meaningIn bytesOf
-returns-9 c = put-at said _ 9 _ _ _ _ (c .before .before .before .match .keys9) (c .put-text9 .ensures)
-
-returns-10 : tie.Need-returns-10
-unfolding meanings meaningIn bytesOf
-returns-10 c = put-at said _ 13 _ _ _ _ (c .before .before .before .match .keys10) (c .put-text10 .ensures)
-
-returns-11 : tie.Need-returns-11
 unfolding meanings
-returns-11 c = put-at (λ words. fed (bytesOf words)) _ (meaningIn (drop 10 meanings) _) _ _ _ _ (none-of 10 meanings _ (c .before .before .match .rest)) (c .put-own-meaning .ensures)
+returns-9 c = put-at (λ words. fed (bytesOf words)) _ (meaningIn (drop 8 meanings) _) _ _ _ _ (none-of 8 meanings _ (c .before .before .match .rest)) (c .put-later-meaning .ensures)
 
 pub put-meaning-spec : {M : Type 1} → statement M
 put-meaning-spec =
@@ -140,11 +120,7 @@ put-meaning-spec =
     put-text-requires-7
     slice-aggregate-put-text-8
     put-text-requires-8
-    slice-aggregate-put-text-9
-    put-text-requires-9
-    slice-aggregate-put-text-10
-    put-text-requires-10
-    put-own-meaning-requires
+    put-later-meaning-requires
     returns
     returns-2
     returns-3
@@ -153,6 +129,4 @@ put-meaning-spec =
     returns-6
     returns-7
     returns-8
-    returns-9
-    returns-10
-    returns-11)
+    returns-9)

@@ -1,4 +1,4 @@
--- `words::put_own_meaning` meets its contract: an arm each.
+-- `words::put_later_meaning` meets its contract: an arm each.
 use Prim.Native.Nat.{ℕ}
 use mathlib.Core.List.{List}
 use Rattle.reasons.specs.Words.{meanings, meaningIn, noMeaning, fed}
@@ -7,11 +7,11 @@ use Rattle.reasons.proofs.WordLaws.{none-of}
 use Rattle.reasons.proofs.PutLaws.{put-at}
 use lib.ListN.{drop}
 use borrow.Author.Needs.{needs}
-use Rattle.reasons.proofs.words.put_own_meaning.Statement.{statement}
-use Rattle.reasons.proofs.words.put_own_meaning.Tie as tie
+use Rattle.reasons.proofs.words.put_later_meaning.Statement.{statement}
+use Rattle.reasons.proofs.words.put_later_meaning.Tie as tie
 
 abbrev said : ℕ → List ℕ
-said status = fed (bytesOf (meaningIn (drop 10 meanings) status))
+said status = fed (bytesOf (meaningIn (drop 8 meanings) status))
 
 slice-aggregate-put-text : tie.Need-slice-aggregate-put-text
 slice-aggregate-put-text c = search needs
@@ -55,36 +55,56 @@ slice-aggregate-put-text-7 c = search needs
 put-text-requires-7 : tie.Need-put-text-requires-7
 put-text-requires-7 c κs = search needs
 
+slice-aggregate-put-text-8 : tie.Need-slice-aggregate-put-text-8
+slice-aggregate-put-text-8 c = search needs
+
+put-text-requires-8 : tie.Need-put-text-requires-8
+put-text-requires-8 c κs = search needs
+
+slice-aggregate-put-text-9 : tie.Need-slice-aggregate-put-text-9
+slice-aggregate-put-text-9 c = search needs
+
+put-text-requires-9 : tie.Need-put-text-requires-9
+put-text-requires-9 c κs = search needs
+
 returns : tie.Need-returns
 unfolding meanings meaningIn bytesOf
-returns c = put-at said _ 101 _ _ _ _ (c .before .before .before .match .keys1) (c .put-text .ensures)
+returns c = put-at said _ 9 _ _ _ _ (c .before .before .before .match .keys1) (c .put-text .ensures)
 
 returns-2 : tie.Need-returns-2
 unfolding meanings meaningIn bytesOf
-returns-2 c = put-at said _ 102 _ _ _ _ (c .before .before .before .match .keys2) (c .put-text2 .ensures)
+returns-2 c = put-at said _ 13 _ _ _ _ (c .before .before .before .match .keys2) (c .put-text2 .ensures)
 
 returns-3 : tie.Need-returns-3
 unfolding meanings meaningIn bytesOf
-returns-3 c = put-at said _ 103 _ _ _ _ (c .before .before .before .match .keys3) (c .put-text3 .ensures)
+returns-3 c = put-at said _ 101 _ _ _ _ (c .before .before .before .match .keys3) (c .put-text3 .ensures)
 
 returns-4 : tie.Need-returns-4
 unfolding meanings meaningIn bytesOf
-returns-4 c = put-at said _ 104 _ _ _ _ (c .before .before .before .match .keys4) (c .put-text4 .ensures)
+returns-4 c = put-at said _ 102 _ _ _ _ (c .before .before .before .match .keys4) (c .put-text4 .ensures)
 
 returns-5 : tie.Need-returns-5
 unfolding meanings meaningIn bytesOf
-returns-5 c = put-at said _ 110 _ _ _ _ (c .before .before .before .match .keys5) (c .put-text5 .ensures)
+returns-5 c = put-at said _ 103 _ _ _ _ (c .before .before .before .match .keys5) (c .put-text5 .ensures)
 
 returns-6 : tie.Need-returns-6
 unfolding meanings meaningIn bytesOf
-returns-6 c = put-at said _ 111 _ _ _ _ (c .before .before .before .match .keys6) (c .put-text6 .ensures)
+returns-6 c = put-at said _ 104 _ _ _ _ (c .before .before .before .match .keys6) (c .put-text6 .ensures)
 
 returns-7 : tie.Need-returns-7
 unfolding meanings meaningIn bytesOf
-returns-7 c = put-at (λ words. fed (bytesOf words)) _ noMeaning _ _ _ _ (none-of 6 (drop 10 meanings) _ (c .before .before .before .match .rest)) (c .put-text7 .ensures)
+returns-7 c = put-at said _ 110 _ _ _ _ (c .before .before .before .match .keys7) (c .put-text7 .ensures)
 
-pub put-own-meaning-spec : {M : Type 1} → statement M
-put-own-meaning-spec =
+returns-8 : tie.Need-returns-8
+unfolding meanings meaningIn bytesOf
+returns-8 c = put-at said _ 111 _ _ _ _ (c .before .before .before .match .keys8) (c .put-text8 .ensures)
+
+returns-9 : tie.Need-returns-9
+unfolding meanings meaningIn bytesOf
+returns-9 c = put-at (λ words. fed (bytesOf words)) _ noMeaning _ _ _ _ (none-of 8 (drop 8 meanings) _ (c .before .before .before .match .rest)) (c .put-text9 .ensures)
+
+pub put-later-meaning-spec : {M : Type 1} → statement M
+put-later-meaning-spec =
     tie.close
     (tie.spec
     slice-aggregate-put-text
@@ -101,10 +121,16 @@ put-own-meaning-spec =
     put-text-requires-6
     slice-aggregate-put-text-7
     put-text-requires-7
+    slice-aggregate-put-text-8
+    put-text-requires-8
+    slice-aggregate-put-text-9
+    put-text-requires-9
     returns
     returns-2
     returns-3
     returns-4
     returns-5
     returns-6
-    returns-7)
+    returns-7
+    returns-8
+    returns-9)
