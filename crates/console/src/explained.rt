@@ -116,7 +116,10 @@ pub fn explain_piece(feeder: Feeder, mem: &mut [u8], piece: &[u8], out: &mut [u8
             left = after;
             from += 1;
             if !went.on {
-                return Went { feeder: left, on: false };
+                return Went {
+                    feeder: left,
+                    on: false,
+                };
             }
             continue;
         }
@@ -126,10 +129,16 @@ pub fn explain_piece(feeder: Feeder, mem: &mut [u8], piece: &[u8], out: &mut [u8
         left = after;
         from = end;
         if !went.on {
-            return Went { feeder: left, on: false };
+            return Went {
+                feeder: left,
+                on: false,
+            };
         }
     }
-    Went { feeder: left, on: true }
+    Went {
+        feeder: left,
+        on: true,
+    }
 }
 
 // The end of the input answers a last line that has no line feed.

@@ -64,13 +64,28 @@ fn answer_some(mode: Mode, feeder: Feeder, mem: &mut [u8], input: &mut [u8], out
             let went = answer_piece(mode, feeder, mem, &input[..n], out);
             let after = went.feeder;
             if went.on {
-                return Turn { feeder: after, next: Next::Read };
+                return Turn {
+                    feeder: after,
+                    next: Next::Read,
+                };
             }
-            Turn { feeder: after, next: Next::Stop }
+            Turn {
+                feeder: after,
+                next: Next::Stop,
+            }
         }
-        Got::Again => Turn { feeder, next: Next::Read },
-        Got::End => Turn { feeder, next: Next::Finish },
-        Got::Failed => Turn { feeder, next: Next::Stop },
+        Got::Again => Turn {
+            feeder,
+            next: Next::Read,
+        },
+        Got::End => Turn {
+            feeder,
+            next: Next::Finish,
+        },
+        Got::Failed => Turn {
+            feeder,
+            next: Next::Stop,
+        },
     }
 }
 

@@ -32,10 +32,16 @@ pub fn answer_piece(feeder: Feeder, mem: &mut [u8], piece: &[u8], out: &mut [u8]
         from += fed.taken;
         let written = fed.written;
         if !write_text(&out[..written]) {
-            return Went { feeder: left, on: false };
+            return Went {
+                feeder: left,
+                on: false,
+            };
         }
     }
-    Went { feeder: left, on: true }
+    Went {
+        feeder: left,
+        on: true,
+    }
 }
 
 // The end of the input answers a last line that has no line feed.

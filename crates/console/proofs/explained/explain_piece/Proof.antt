@@ -47,13 +47,14 @@ loop-less c = omega arith
 loop-again : tie.Need-loop-again Inv-loop μ-loop
 loop-again c =
     let piece = c .before .before .before .before .before .before .before .before .before .before .before .before .before .before .before .before .before .args .piece .now in
-    let from = c .before .before .before .before .before .before .before .before .before .before .before .before .before .loop .from in
-    (omega arith,
-    search needs,
-    search needs,
-    step-fed _ piece _ from (from + 1) _ _ _ _ (c .before .before .before .before .before .before .before .before .before .before .before .before .before .loop .inv .3)
-    (c .before .before .before .before .before .before .before .explain-line .ensures (not-false _ (c .if2 .left)))
-    (end-split piece from (search needs) (c .before .before .before .before .before .before .before .before .before .before .if1 .taken)))
+    let from = c .before .before .before .before .before .before .before .before .before .before .before .before .before .loop .from in (
+      omega arith,
+      search needs,
+      search needs,
+      step-fed _ piece _ from (from + 1) _ _ _ _ (c .before .before .before .before .before .before .before .before .before .before .before .before .before .loop .inv .3)
+          (c .before .before .before .before .before .before .before .explain-line .ensures (not-false _ (c .if2 .left)))
+          (end-split piece from (search needs) (c .before .before .before .before .before .before .before .before .before .before .if1 .taken)),
+    )
 
 add-line-end : tie.Need-add-line-end Inv-loop μ-loop
 add-line-end c = omega arith
@@ -89,13 +90,14 @@ loop-again-2 : tie.Need-loop-again-2 Inv-loop μ-loop
 loop-again-2 c =
     let piece = c .before .before .before .before .before .before .before .before .before .before .before .before .before .before .before .before .before .before .before .args .piece .now in
     let from = c .before .before .before .before .before .before .before .before .before .before .before .before .before .before .before .loop .from in
-    let to = c .before .before .before .before .before .before .before .before .before .before .before .line-end .result in
-    (omega (arith, c .before .before .before .before .before .before .before .before .before .before .before .line-end .ensures),
-    search needs,
-    search needs,
-    step-fed _ piece _ from to _ _ _ _ (c .before .before .before .before .before .before .before .before .before .before .before .before .before .before .before .loop .inv .3)
-    (c .before .before .before .before .before .before .before .answer-piece .ensures (not-false _ (c .if3 .left)))
-    (part-split piece from to (omega (arith, c .before .before .before .before .before .before .before .before .before .before .before .line-end .ensures))))
+    let to = c .before .before .before .before .before .before .before .before .before .before .before .line-end .result in (
+      omega (arith, c .before .before .before .before .before .before .before .before .before .before .before .line-end .ensures),
+      search needs,
+      search needs,
+      step-fed _ piece _ from to _ _ _ _ (c .before .before .before .before .before .before .before .before .before .before .before .before .before .before .before .loop .inv .3)
+          (c .before .before .before .before .before .before .before .answer-piece .ensures (not-false _ (c .if3 .left)))
+          (part-split piece from to (omega (arith, c .before .before .before .before .before .before .before .before .before .before .before .line-end .ensures))),
+    )
 
 same-length-5 : tie.Need-same-length-5 Inv-loop μ-loop
 same-length-5 c = search needs
