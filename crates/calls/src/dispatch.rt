@@ -88,7 +88,7 @@ fn perform(extents: Extents, plant: Plant, mem: &mut [u8], c: Call, f: Function)
     }
 }
 
-pub fn call(extents: Extents, plant: Plant, mem: &mut [u8], c: Call) -> Done
+pub(crate) fn call(extents: Extents, plant: Plant, mem: &mut [u8], c: Call) -> Done
     requires { ⌜ Sound extents plant (length (now mem)) ⌝ }
     requires { ⌜ c .cpu < plant .cpus ⌝ }
     ensures { λ r. ⌜ Follows extents plant (call (sightOf (present extents) (now (mem .entry))) plant c) (now (mem .entry)) r (now (mem .exit)) ⌝ }

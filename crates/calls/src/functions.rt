@@ -38,7 +38,7 @@ fn fast_function(function: u64) -> Function
     }
 }
 
-pub fn function_of(trap: u64, function: u64) -> Function
+pub(crate) fn function_of(trap: u64, function: u64) -> Function
     ensures { λ r. ⌜ r ≡ functionOf trap function ⌝ }
 {
     match trap {
@@ -82,7 +82,7 @@ fn cookie_open(major: u8) -> Verdict
 }
 
 // Whether a function may be called under the negotiated versions. No argument of the call is looked at.
-pub fn admission(v: Versions, f: Function) -> Verdict
+pub(crate) fn admission(v: Versions, f: Function) -> Verdict
     ensures { λ r. ⌜ r ≡ verdictOf (admitted v f) ⌝ }
 {
     match f {

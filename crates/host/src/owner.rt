@@ -45,7 +45,7 @@ fn raise_owner(guests: u8, guest: [Guest; GUESTS], d: Device) -> Owner
 }
 
 // Every other event belongs to the guest that it names.
-pub fn owner_of(tables: Tables, event: Event) -> Owner
+pub(crate) fn owner_of(tables: Tables, event: Event) -> Owner
     requires { ⌜ Counted (tables .guests) (tables .guest) ⌝ }
     ensures { λ r. ⌜ r ≡ ownerOf tables event ⌝ }
 {

@@ -6,7 +6,7 @@ ghost use Prim.Native.Nat.{_<_};
 ghost use Rattle.rules.specs.Limits.{guestLimit};
 ghost use Rattle.rules.specs.Kept.{withPlant};
 
-pub fn with_plant(tables: Tables, g: usize, plant: Plant) -> Tables
+pub(crate) fn with_plant(tables: Tables, g: usize, plant: Plant) -> Tables
     requires { ⌜ g < guestLimit ⌝ }
     ensures { λ r. ⌜ r ≡ withPlant tables g plant ⌝ }
 {

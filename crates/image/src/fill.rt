@@ -3,7 +3,7 @@ ghost use mathlib.Core.Path.{_≡_};
 ghost use Rattle.rules.specs.Image.{filledOut};
 
 // Zero bits fill the last byte, and nothing is behind it. The bytes are counted without the sum `end + 7`, which could wrap.
-pub fn filled_out(s: &[u8], end: u64) -> bool
+pub(crate) fn filled_out(s: &[u8], end: u64) -> bool
     ensures { λ r. ⌜ r ≡ filledOut (now (s .entry)) end ⌝ }
 {
     let over = end % 8;

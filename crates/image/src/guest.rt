@@ -41,7 +41,7 @@ pub struct GuestRead {
 }
 
 // The n bits from bit `at` on, which are from lo to hi.
-pub fn read_count(s: &[u8], at: u64, n: u32, lo: u8, hi: u8) -> Count
+pub(crate) fn read_count(s: &[u8], at: u64, n: u32, lo: u8, hi: u8) -> Count
     requires { ⌜ n ≤ 28 ⌝ }
     ensures { λ r. ⌜ r ≡ countAs (countAt (now (s .entry)) at n lo hi) ⌝ }
 {
@@ -130,7 +130,7 @@ fn behind_lists(at: u64, extents: u8, sources: u8) -> u64
 }
 
 // The bit behind a guest that starts at bit `at`.
-pub fn behind(at: u64, extents: u8, sources: u8) -> u64
+pub(crate) fn behind(at: u64, extents: u8, sources: u8) -> u64
     requires { ⌜ at < 2 ^ 31 ⌝ }
     ensures { λ r. ⌜ r ≡ at + 12 + extentBits * extents + sourceBits * sources ⌝ }
 {
@@ -167,7 +167,7 @@ fn read_lists(s: &[u8], at: u64, cpus: u8, extents: u8, sources: u8) -> GuestRea
 }
 
 // The guest at bit `at`: cpus 4 bits, extents 3, sources 5; then its lists.
-pub fn read_guest(s: &[u8], at: u64) -> GuestRead
+pub(crate) fn read_guest(s: &[u8], at: u64) -> GuestRead
     requires { ⌜ at < 2 ^ 31 ⌝ }
     ensures { λ r. ⌜ r ≡ guestAs (readGuest (now (s .entry)) at) ⌝ }
 {

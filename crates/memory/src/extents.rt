@@ -15,7 +15,7 @@ ghost use Rattle.memory.specs.Ready.{present};
 const PAGE: u64 = 8192;
 
 // Whether the whole range lies in the extent. No sum of base and len is made, so none can wrap.
-pub fn inside(x: Extent, base: u64, len: u64) -> bool
+fn inside(x: Extent, base: u64, len: u64) -> bool
     ensures { λ r. ⌜ r ≡ holds x base len ⌝ }
 {
     let first = (x.real as u64) * PAGE;
@@ -31,7 +31,7 @@ pub fn inside(x: Extent, base: u64, len: u64) -> bool
 }
 
 // The host offset of a real address that lies in the extent, or is the one past its last.
-pub fn through(x: Extent, real: Real) -> Host
+fn through(x: Extent, real: Real) -> Host
     requires { ⌜ low x ≤ real .0 ⌝ }
     requires { ⌜ real .0 ≤ high x ⌝ }
     ensures { λ r. ⌜ r ≡ hostOffset x real ⌝ }
@@ -41,7 +41,7 @@ pub fn through(x: Extent, real: Real) -> Host
 }
 
 // Where the range starts on the host, if it is valid.
-pub fn locate(e: Extents, real: Real, len: u64) -> Place
+fn locate(e: Extents, real: Real, len: u64) -> Place
     requires { ⌜ e .count ≤ extentLimit ⌝ }
     ensures { λ r. ⌜ r ≡ located (present e) (real .0) len ⌝ }
 {
@@ -71,7 +71,7 @@ pub fn range_valid(e: Extents, base: u64, len: u64) -> bool
 }
 
 // Where a valid range starts on the host.
-pub fn start(e: Extents, real: Real, len: u64) -> Host
+pub(crate) fn start(e: Extents, real: Real, len: u64) -> Host
     requires { ⌜ e .count ≤ extentLimit ⌝ }
     requires { ⌜ valid (present e) (real .0) len ≡ true ⌝ }
     ensures { λ r. ⌜ Place.At r ≡ located (present e) (real .0) len ⌝ }

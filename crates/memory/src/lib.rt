@@ -7,17 +7,12 @@ mod runs;
 
 pub use bounds::greatest;
 pub use bounds::least;
-pub use extents::inside;
-pub use extents::locate;
 pub use extents::range_valid;
-pub use extents::through;
 pub use guest::bytes64;
 pub use guest::number2;
 pub use guest::number4;
 pub use guest::number8;
 pub use guest::write_at;
 pub use guest::zero_at;
-pub use runs::copy64;
 pub use runs::word_bytes;
 pub use runs::write;
-pub use runs::zero;

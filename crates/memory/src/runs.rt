@@ -19,7 +19,7 @@ pub fn write(mem: &mut [u8], at: usize, src: &[u8])
 }
 
 // Zeroes n bytes of mem from the offset at.
-pub fn zero(mem: &mut [u8], at: usize, n: usize)
+pub(crate) fn zero(mem: &mut [u8], at: usize, n: usize)
     requires { ⌜ at + n ≤ length (now mem) ⌝ }
     ensures { λ _. ⌜ now (mem .exit) ≡ sets (now (mem .entry)) at (replicate n 0) ⌝ }
 {
@@ -38,7 +38,7 @@ fn wide(x: u8) -> u64
 }
 
 // The number that k bytes from the offset at make.
-pub fn number(mem: &[u8], at: usize, k: usize) -> u64
+pub(crate) fn number(mem: &[u8], at: usize, k: usize) -> u64
     requires { ⌜ k ≤ 8 ⌝ }
     requires { ⌜ at + k ≤ length (now mem) ⌝ }
     ensures { λ r. ⌜ (r ≡ numberOf (cell (now (mem .entry))) at k) × (r < 256 ^ k) ⌝ }
@@ -53,7 +53,7 @@ pub fn number(mem: &[u8], at: usize, k: usize) -> u64
 }
 
 // The 64 bytes from the offset at.
-pub fn copy64(mem: &[u8], at: usize) -> [u8; 64]
+pub(crate) fn copy64(mem: &[u8], at: usize) -> [u8; 64]
     requires { ⌜ at + 64 ≤ length (now mem) ⌝ }
     ensures { λ r. ⌜ r ≡ bytesFrom (cell (now (mem .entry))) at 64 ⌝ }
 {

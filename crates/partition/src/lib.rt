@@ -88,12 +88,6 @@ fn holds(rule: Rule, e: Extents) -> bool
     true
 }
 
-pub fn extents_right(e: Extents) -> bool
-    ensures { λ r. ⌜ r ≡ extentsRight e ⌝ }
-{
-    holds(Rule::Right, e)
-}
-
 pub fn ascend(e: Extents) -> bool
     ensures { λ r. ⌜ r ≡ ascend e ⌝ }
 {

@@ -16,7 +16,7 @@ ghost use Rattle.rules.specs.Versions.{disabled};
 ghost use Rattle.plants.specs.Changes.{atTail, cpuAtTail, withTails};
 
 // Every source disabled.
-pub fn all_disabled(source: [Source; SOURCES]) -> [Source; SOURCES]
+pub(crate) fn all_disabled(source: [Source; SOURCES]) -> [Source; SOURCES]
     ensures { λ r. ⌜ r ≡ map disabled source ⌝ }
 {
     let mut next = source;
@@ -62,7 +62,7 @@ fn cpu_at_tail(cpu: Cpu, tail: u16) -> Cpu
 }
 
 // Each cpu that is there with the tail of its 0x3c ring where the list says.
-pub fn with_tails(plant: Plant, tails: [u16; CPUS]) -> Plant
+pub(crate) fn with_tails(plant: Plant, tails: [u16; CPUS]) -> Plant
     requires { ⌜ plant .cpus ≤ cpuLimit ⌝ }
     ensures { λ r. ⌜ r ≡ withTails plant tails ⌝ }
 {

@@ -5,18 +5,13 @@ use Rattle.bits.proofs.number_at.Reads as number-at-reads
 use Rattle.bits.proofs.field_at.Reads as field-at-reads
 use Rattle.memory.proofs.least.Reads as least-reads
 use Rattle.memory.proofs.greatest.Reads as greatest-reads
-use Rattle.memory.proofs.inside.Reads as inside-reads
-use Rattle.memory.proofs.through.Reads as through-reads
-use Rattle.memory.proofs.locate.Reads as locate-reads
 use Rattle.memory.proofs.range_valid.Reads as range-valid-reads
 use Rattle.memory.proofs.number2.Reads as number2-reads
 use Rattle.memory.proofs.number4.Reads as number4-reads
 use Rattle.memory.proofs.number8.Reads as number8-reads
 use Rattle.memory.proofs.bytes64.Reads as bytes64-reads
-use Rattle.memory.proofs.copy64.Reads as copy64-reads
 use Rattle.memory.proofs.word_bytes.Reads as word-bytes-reads
 use Rattle.partition.proofs.extent_right.Reads as extent-right-reads
-use Rattle.partition.proofs.extents_right.Reads as extents-right-reads
 use Rattle.partition.proofs.ascend.Reads as ascend-reads
 use Rattle.partition.proofs.extents_all_right.Reads as extents-all-right-reads
 use Rattle.partition.proofs.all_ascend.Reads as all-ascend-reads
@@ -24,12 +19,8 @@ use Rattle.partition.proofs.runs.Reads as runs-reads
 use Rattle.partition.proofs.pages_shared.Reads as pages-shared-reads
 use Rattle.partition.proofs.source_twice.Reads as source-twice-reads
 use Rattle.records.proofs.is_right.Reads as is-right-reads
-use Rattle.records.proofs.ring_entries.Reads as ring-entries-reads
-use Rattle.records.proofs.tsb_entries.Reads as tsb-entries-reads
 use Rattle.records.proofs.judge_ring.Reads as judge-ring-reads
 use Rattle.records.proofs.judge_statistics.Reads as judge-statistics-reads
-use Rattle.records.proofs.is_page_index.Reads as is-page-index-reads
-use Rattle.records.proofs.inside_mask.Reads as inside-mask-reads
 use Rattle.records.proofs.judge_tsb.Reads as judge-tsb-reads
 use Rattle.records.proofs.blank.extent.Reads as blank-extent-reads
 use Rattle.records.proofs.blank.extents.Reads as blank-extents-reads
@@ -43,7 +34,6 @@ use Rattle.records.proofs.blank.guests.Reads as blank-guests-reads
 use Rattle.records.proofs.blank.no_guests.Reads as blank-no-guests-reads
 use Rattle.sources.proofs.sysino_of.Reads as sysino-of-reads
 use Rattle.memory.proofs.write.Reads as write-reads
-use Rattle.memory.proofs.zero.Reads as zero-reads
 use Rattle.memory.proofs.write_at.Reads as write-at-reads
 use Rattle.memory.proofs.zero_at.Reads as zero-at-reads
 
@@ -62,15 +52,6 @@ pub greatest-determined : (κs : _) (a : _) (r s : _) (ws vs : _) → greatest-r
 greatest-determined κs a r s ws vs p q = p ∙ sym q
 
 -- memory: where a range lies, and what stands there
-pub inside-determined : (κs : _) (a : _) (r s : _) (ws vs : _) → inside-reads.Post κs a r ws → inside-reads.Post κs a s vs → r ≡ s
-inside-determined κs a r s ws vs p q = p ∙ sym q
-
-pub through-determined : (κs : _) (a : _) (r s : _) (ws vs : _) → through-reads.Post κs a r ws → through-reads.Post κs a s vs → r ≡ s
-through-determined κs a r s ws vs p q = p ∙ sym q
-
-pub locate-determined : (κs : _) (a : _) (r s : _) (ws vs : _) → locate-reads.Post κs a r ws → locate-reads.Post κs a s vs → r ≡ s
-locate-determined κs a r s ws vs p q = p ∙ sym q
-
 pub range-valid-determined : (κs : _) (a : _) (r s : _) (ws vs : _) → range-valid-reads.Post κs a r ws → range-valid-reads.Post κs a s vs → r ≡ s
 range-valid-determined κs a r s ws vs p q = p ∙ sym q
 
@@ -86,18 +67,12 @@ number8-determined κs a r s ws vs p q = p ∙ sym q
 pub bytes64-determined : (κs : _) (a : _) (r s : _) (ws vs : _) → bytes64-reads.Post κs a r ws → bytes64-reads.Post κs a s vs → r ≡ s
 bytes64-determined κs a r s ws vs p q = p ∙ sym q
 
-pub copy64-determined : (κs : _) (a : _) (r s : _) (ws vs : _) → copy64-reads.Post κs a r ws → copy64-reads.Post κs a s vs → r ≡ s
-copy64-determined κs a r s ws vs p q = p ∙ sym q
-
 pub word-bytes-determined : (κs : _) (a : _) (r s : _) (ws vs : _) → word-bytes-reads.Post κs a r ws → word-bytes-reads.Post κs a s vs → r ≡ s
 word-bytes-determined κs a r s ws vs p q = p ∙ sym q
 
 -- partition: the rules on pages and sources
 pub extent-right-determined : (κs : _) (a : _) (r s : _) (ws vs : _) → extent-right-reads.Post κs a r ws → extent-right-reads.Post κs a s vs → r ≡ s
 extent-right-determined κs a r s ws vs p q = p ∙ sym q
-
-pub extents-right-determined : (κs : _) (a : _) (r s : _) (ws vs : _) → extents-right-reads.Post κs a r ws → extents-right-reads.Post κs a s vs → r ≡ s
-extents-right-determined κs a r s ws vs p q = p ∙ sym q
 
 pub ascend-determined : (κs : _) (a : _) (r s : _) (ws vs : _) → ascend-reads.Post κs a r ws → ascend-reads.Post κs a s vs → r ≡ s
 ascend-determined κs a r s ws vs p q = p ∙ sym q
@@ -121,23 +96,11 @@ source-twice-determined κs a r s ws vs p q = p ∙ sym q
 pub is-right-determined : (κs : _) (a : _) (r s : _) (ws vs : _) → is-right-reads.Post κs a r ws → is-right-reads.Post κs a s vs → r ≡ s
 is-right-determined κs a r s ws vs p q = p ∙ sym q
 
-pub ring-entries-determined : (κs : _) (a : _) (r s : _) (ws vs : _) → ring-entries-reads.Post κs a r ws → ring-entries-reads.Post κs a s vs → r ≡ s
-ring-entries-determined κs a r s ws vs p q = p ∙ sym q
-
-pub tsb-entries-determined : (κs : _) (a : _) (r s : _) (ws vs : _) → tsb-entries-reads.Post κs a r ws → tsb-entries-reads.Post κs a s vs → r ≡ s
-tsb-entries-determined κs a r s ws vs p q = p ∙ sym q
-
 pub judge-ring-determined : (κs : _) (a : _) (r s : _) (ws vs : _) → judge-ring-reads.Post κs a r ws → judge-ring-reads.Post κs a s vs → r ≡ s
 judge-ring-determined κs a r s ws vs p q = p ∙ sym q
 
 pub judge-statistics-determined : (κs : _) (a : _) (r s : _) (ws vs : _) → judge-statistics-reads.Post κs a r ws → judge-statistics-reads.Post κs a s vs → r ≡ s
 judge-statistics-determined κs a r s ws vs p q = p ∙ sym q
-
-pub is-page-index-determined : (κs : _) (a : _) (r s : _) (ws vs : _) → is-page-index-reads.Post κs a r ws → is-page-index-reads.Post κs a s vs → r ≡ s
-is-page-index-determined κs a r s ws vs p q = p ∙ sym q
-
-pub inside-mask-determined : (κs : _) (a : _) (r s : _) (ws vs : _) → inside-mask-reads.Post κs a r ws → inside-mask-reads.Post κs a s vs → r ≡ s
-inside-mask-determined κs a r s ws vs p q = p ∙ sym q
 
 pub judge-tsb-determined : (κs : _) (a : _) (r s : _) (ws vs : _) → judge-tsb-reads.Post κs a r ws → judge-tsb-reads.Post κs a s vs → r ≡ s
 judge-tsb-determined κs a r s ws vs p q = p ∙ sym q
@@ -180,9 +143,6 @@ sysino-of-determined κs a r s ws vs p q = p ∙ sym q
 -- memory: every byte that a write leaves
 pub write-determined : (κs : _) (a : _) (r s : _) (ws vs : _) → write-reads.Post κs a r ws → write-reads.Post κs a s vs → now (ws .0) ≡ now (vs .0)
 write-determined κs a r s ws vs p q = p ∙ sym q
-
-pub zero-determined : (κs : _) (a : _) (r s : _) (ws vs : _) → zero-reads.Post κs a r ws → zero-reads.Post κs a s vs → now (ws .0) ≡ now (vs .0)
-zero-determined κs a r s ws vs p q = p ∙ sym q
 
 pub write-at-determined : (κs : _) (a : _) (r s : _) (ws vs : _) → write-at-reads.Post κs a r ws → write-at-reads.Post κs a s vs → now (ws .1 .0) ≡ now (vs .1 .0)
 write-at-determined κs a r s ws vs p q = p ∙ sym q

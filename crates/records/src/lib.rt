@@ -32,7 +32,7 @@ pub fn is_right(verdict: Verdict) -> bool
 }
 
 // The number of entries of a ring: a power of two from 2 to 256.
-pub fn ring_entries(n: u64) -> bool
+fn ring_entries(n: u64) -> bool
     ensures { λ r. ⌜ r ≡ powerFrom 2 8 n ⌝ }
 {
     match n {
@@ -42,7 +42,7 @@ pub fn ring_entries(n: u64) -> bool
 }
 
 // The number of entries of a TSB: a power of two from 512 to 1,048,576.
-pub fn tsb_entries(n: u32) -> bool
+fn tsb_entries(n: u32) -> bool
     ensures { λ r. ⌜ r ≡ powerFrom 512 12 n ⌝ }
 {
     match n {
@@ -98,7 +98,7 @@ pub fn judge_statistics(e: Extents, address: u64) -> Verdict
 }
 
 // Page indexes 0, 1, 3 and 5.
-pub fn is_page_index(k: u32) -> bool
+fn is_page_index(k: u32) -> bool
     ensures { λ r. ⌜ r ≡ isPageIndex k ⌝ }
 {
     match k {
@@ -127,7 +127,7 @@ fn mask_bit_right(mask: u32, k: u32) -> bool
 }
 
 // No bit of a page mask lies outside 0x2b.
-pub fn inside_mask(mask: u32) -> bool
+fn inside_mask(mask: u32) -> bool
     ensures { λ r. ⌜ r ≡ insideMask mask ⌝ }
 {
     let mut k = 0;

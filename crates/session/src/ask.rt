@@ -33,7 +33,7 @@ fn ask_event(tables: Tables, entry: Verdict, event: Event) -> Asked
     }
 }
 
-pub fn ask(tables: Tables, entry: Verdict, line: &[u8]) -> Asked
+pub(crate) fn ask(tables: Tables, entry: Verdict, line: &[u8]) -> Asked
     requires { ⌜ (isRight entry ≡ true → keepRules tables ≡ true) ⌝ }
     ensures { λ r. ⌜ r ≡ asked tables entry (parse (now (line .entry))) ⌝ }
 {
@@ -45,7 +45,7 @@ pub fn ask(tables: Tables, entry: Verdict, line: &[u8]) -> Asked
 }
 
 // Loads the image of an image line.
-pub fn load_line(line: &[u8]) -> Loaded
+pub(crate) fn load_line(line: &[u8]) -> Loaded
     ensures { λ r. ⌜ r ≡ load (imageOf (parse (now (line .entry)))) ⌝ }
 {
     let mut bytes = [0u8; 1024];

@@ -28,7 +28,7 @@ fn put_text(reply: Reply, text: &mut [u8; REPLY]) -> usize
 }
 
 // Its text from the place at on, and the place behind it.
-pub fn put_reply(reply: Reply, out: &mut [u8], at: usize) -> usize
+pub(crate) fn put_reply(reply: Reply, out: &mut [u8], at: usize) -> usize
     requires { ⌜ at + 96 ≤ length (now out) ⌝ }
     ensures { λ r. ⌜ (r ≡ at + length (replyText reply)) × (now (out .exit) ≡ sets (now (out .entry)) at (replyText reply)) ⌝ }
 {

@@ -21,13 +21,13 @@ use rules::Tsb;
 use rules::TsbList;
 use rules::Versions;
 
-pub fn extent_blank(x: Extent) -> bool
+pub(crate) fn extent_blank(x: Extent) -> bool
     ensures { λ r. ⌜ r ≡ extentBlank x ⌝ }
 {
     (x.real == 0) & ((x.count == 0) & (x.host == 0))
 }
 
-pub fn extents_blank(e: Extents) -> bool
+fn extents_blank(e: Extents) -> bool
     ensures { λ r. ⌜ r ≡ extentsBlank e ⌝ }
 {
     let list = e.list;
@@ -63,14 +63,14 @@ fn queues_blank(queues: [Queue; QUEUES]) -> bool
     blank
 }
 
-pub fn tsb_blank(t: Tsb) -> bool
+pub(crate) fn tsb_blank(t: Tsb) -> bool
     ensures { λ r. ⌜ r ≡ tsbBlank t ⌝ }
 {
     ((t.index == 0) & ((t.associativity == 0) & (t.entries == 0)))
         & ((t.context == 0) & ((t.mask == 0) & (t.base == 0)))
 }
 
-pub fn tsbs_blank(tsbs: TsbList) -> bool
+fn tsbs_blank(tsbs: TsbList) -> bool
     ensures { λ r. ⌜ r ≡ tsbsBlank tsbs ⌝ }
 {
     let list = tsbs.list;
@@ -83,7 +83,7 @@ pub fn tsbs_blank(tsbs: TsbList) -> bool
     blank
 }
 
-pub fn cpu_blank(cpu: Cpu) -> bool
+pub(crate) fn cpu_blank(cpu: Cpu) -> bool
     ensures { λ r. ⌜ r ≡ cpuBlank cpu ⌝ }
 {
     let queues = cpu.queues;
@@ -113,7 +113,7 @@ fn target_blank(target: Target) -> bool
     }
 }
 
-pub fn source_blank(s: Source) -> bool
+pub(crate) fn source_blank(s: Source) -> bool
     ensures { λ r. ⌜ r ≡ sourceBlank s ⌝ }
 {
     let target = s.target;
@@ -133,13 +133,13 @@ fn sources_blank(source: [Source; SOURCES]) -> bool
     blank
 }
 
-pub fn versions_blank(v: Versions) -> bool
+fn versions_blank(v: Versions) -> bool
     ensures { λ r. ⌜ r ≡ versionsBlank v ⌝ }
 {
     ((v.sun4v == 0) & (v.core == 0)) & ((v.interrupt == 0) & (v.statistics == 0))
 }
 
-pub fn plant_blank(plant: Plant) -> bool
+fn plant_blank(plant: Plant) -> bool
     ensures { λ r. ⌜ r ≡ plantBlank plant ⌝ }
 {
     let versions = plant.versions;
@@ -149,7 +149,7 @@ pub fn plant_blank(plant: Plant) -> bool
         & (cpus_blank(cpu) & sources_blank(source))
 }
 
-pub fn guest_blank(guest: Guest) -> bool
+pub(crate) fn guest_blank(guest: Guest) -> bool
     ensures { λ r. ⌜ r ≡ guestBlank guest ⌝ }
 {
     let extents = guest.extents;

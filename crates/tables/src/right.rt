@@ -19,13 +19,13 @@ const DEVHANDLES: u32 = 0x1000_0000;
 
 const DEVINOS: u8 = 128;
 
-pub fn versions_right(v: Versions) -> bool
+pub(crate) fn versions_right(v: Versions) -> bool
     ensures { λ r. ⌜ r ≡ versionsRight v ⌝ }
 {
     ((v.sun4v <= 1) & (v.core <= 1)) & ((v.interrupt <= 2) & (v.statistics <= 1))
 }
 
-pub fn target_right(cpus: u8, target: Target) -> bool
+fn target_right(cpus: u8, target: Target) -> bool
     ensures { λ r. ⌜ r ≡ targetRight cpus target ⌝ }
 {
     match target {
@@ -35,19 +35,19 @@ pub fn target_right(cpus: u8, target: Target) -> bool
 }
 
 // major is the negotiated version of group 2.
-pub fn cookie_right(major: u8, s: Source) -> bool
+fn cookie_right(major: u8, s: Source) -> bool
     ensures { λ r. ⌜ r ≡ cookieRight major s ⌝ }
 {
     (s.cookie == 0) | ((2047 < s.cookie) & ((major == 2) & s.cookies))
 }
 
-pub fn enabled_right(major: u8, s: Source) -> bool
+fn enabled_right(major: u8, s: Source) -> bool
     ensures { λ r. ⌜ r ≡ enabledRight major s ⌝ }
 {
     (s.enabled == 0) | !((major == 0) | ((major == 2) & (s.cookie == 0)))
 }
 
-pub fn source_right(cpus: u8, major: u8, s: Source) -> bool
+pub(crate) fn source_right(cpus: u8, major: u8, s: Source) -> bool
     ensures { λ r. ⌜ r ≡ sourceRightUnder cpus major s ⌝ }
 {
     let target = s.target;
@@ -81,7 +81,7 @@ fn list_keeps(e: Extents) -> bool
     keep
 }
 
-pub fn extents_keep(e: Extents) -> bool
+pub(crate) fn extents_keep(e: Extents) -> bool
     ensures { λ r. ⌜ r ≡ extentsKeep e ⌝ }
 {
     (1 <= e.count) & (list_keeps(e) & ascend(e))

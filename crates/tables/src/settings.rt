@@ -170,7 +170,7 @@ fn sources_keep(cpus: u8, major: u8, sources: u8, source: [Source; SOURCES]) -> 
     keep
 }
 
-pub fn plant_keeps(e: Extents, plant: Plant) -> bool
+pub(crate) fn plant_keeps(e: Extents, plant: Plant) -> bool
     requires { ⌜ e .count ≤ extentLimit ⌝ }
     ensures { λ r. ⌜ r ≡ plantKeeps (valid (present e)) plant ⌝ }
 {

@@ -16,7 +16,7 @@ pub enum Size {
 }
 
 // Reads the image that is left from the place from on into out. A first digit waits in high for the second one of its byte.
-pub fn read_image(s: &[u8], from: usize, out: &mut [u8; 1024]) -> Size
+pub(crate) fn read_image(s: &[u8], from: usize, out: &mut [u8; 1024]) -> Size
     requires { ⌜ (from ≤ length (now s)) × (length (now s) ≤ 2048) ⌝ }
     ensures size { λ r. ⌜ r ≡ sizeOr (imageAt (drop from (now (s .entry)))) ⌝ }
     ensures bytes { λ _. ⌜ ((bytes : List ℕ) → imageAt (drop from (now (s .entry))) ≡ some bytes → now (out .exit) ≡ sets (now (out .entry)) 0 bytes) ⌝ }

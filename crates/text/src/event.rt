@@ -96,7 +96,7 @@ fn event_of(word: &[u8], n: usize, ns: [u64; FIELDS]) -> Line
 }
 
 // A line whose first word ends at `end` and is not that of an image.
-pub fn event_line(s: &[u8], end: usize) -> Line
+pub(crate) fn event_line(s: &[u8], end: usize) -> Line
     requires { ⌜ end ≤ length (now s) ⌝ }
     ensures { λ r. ⌜ r ≡ told (eventOr (take end (now (s .entry))) (fields (behind (drop end (now (s .entry)))))) ⌝ }
 {
