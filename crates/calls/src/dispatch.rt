@@ -54,7 +54,8 @@ fn sysino_call(plant: Plant, c: Call, function: u64) -> Done
 fn perform(extents: Extents, plant: Plant, mem: &mut [u8], c: Call, f: Function) -> Done
     requires { ⌜ Sound extents plant (length (now mem)) ⌝ }
     requires { ⌜ c .cpu < plant .cpus ⌝ }
-    ensures { λ r. ⌜ Follows extents plant (perform (sightOf (present extents) (now (mem .entry))) plant c f) (now (mem .entry)) r (now (mem .exit)) ⌝ }
+    ensures { λ r. ⌜ Follows extents plant (perform (sightOf (present extents) (now (mem .entry))) plant c f)
+        (now (mem .entry)) r (now (mem .exit)) ⌝ }
 {
     let cpu = c.cpu as usize;
     match f {
@@ -91,7 +92,8 @@ fn perform(extents: Extents, plant: Plant, mem: &mut [u8], c: Call, f: Function)
 pub(crate) fn call(extents: Extents, plant: Plant, mem: &mut [u8], c: Call) -> Done
     requires { ⌜ Sound extents plant (length (now mem)) ⌝ }
     requires { ⌜ c .cpu < plant .cpus ⌝ }
-    ensures { λ r. ⌜ Follows extents plant (call (sightOf (present extents) (now (mem .entry))) plant c) (now (mem .entry)) r (now (mem .exit)) ⌝ }
+    ensures { λ r. ⌜ Follows extents plant (call (sightOf (present extents) (now (mem .entry))) plant c)
+        (now (mem .entry)) r (now (mem .exit)) ⌝ }
 {
     let f = function_of(c.trap, c.function);
     let versions = plant.versions;

@@ -25,7 +25,8 @@ ghost use Rattle.plants.specs.Follows.{Follows};
 
 fn plant_call(extents: Extents, plant: Plant, mem: &mut [u8], c: Call) -> Done
     requires { ⌜ Sound extents plant (length (now mem)) ⌝ }
-    ensures { λ r. ⌜ Follows extents plant (plantRule (sightOf (present extents) (now (mem .entry))) plant (Event.Call c)) (now (mem .entry)) r (now (mem .exit)) ⌝ }
+    ensures { λ r. ⌜ Follows extents plant (plantRule (sightOf (present extents) (now (mem .entry))) plant (Event.Call c))
+        (now (mem .entry)) r (now (mem .exit)) ⌝ }
 {
     if plant.cpus as u64 <= c.cpu {
         return told(Answer::Refused(Refusal::NoCaller));
@@ -35,7 +36,8 @@ fn plant_call(extents: Extents, plant: Plant, mem: &mut [u8], c: Call) -> Done
 
 fn plant_head(extents: Extents, plant: Plant, mem: &[u8], h: HeadWrite) -> Done
     requires { ⌜ Sound extents plant (length (now mem)) ⌝ }
-    ensures { λ r. ⌜ Follows extents plant (plantRule (sightOf (present extents) (now (mem .entry))) plant (Event.Head h)) (now (mem .entry)) r (now (mem .entry)) ⌝ }
+    ensures { λ r. ⌜ Follows extents plant (plantRule (sightOf (present extents) (now (mem .entry))) plant (Event.Head h))
+        (now (mem .entry)) r (now (mem .entry)) ⌝ }
 {
     if plant.cpus as u64 <= h.cpu {
         return told(Answer::Refused(Refusal::NoCaller));
@@ -45,7 +47,8 @@ fn plant_head(extents: Extents, plant: Plant, mem: &[u8], h: HeadWrite) -> Done
 
 fn plant_raise(extents: Extents, plant: Plant, mem: &mut [u8], d: Device) -> Done
     requires { ⌜ Sound extents plant (length (now mem)) ⌝ }
-    ensures { λ r. ⌜ Follows extents plant (plantRule (sightOf (present extents) (now (mem .entry))) plant (Event.Raise d)) (now (mem .entry)) r (now (mem .exit)) ⌝ }
+    ensures { λ r. ⌜ Follows extents plant (plantRule (sightOf (present extents) (now (mem .entry))) plant (Event.Raise d))
+        (now (mem .entry)) r (now (mem .exit)) ⌝ }
 {
     match sysino_of(plant, d.devhandle, d.devino) {
         Found::Nothing => told(Answer::Refused(Refusal::NoSource)),
@@ -55,7 +58,8 @@ fn plant_raise(extents: Extents, plant: Plant, mem: &mut [u8], d: Device) -> Don
 
 pub fn plant_event(extents: Extents, plant: Plant, mem: &mut [u8], event: Event) -> Done
     requires { ⌜ Sound extents plant (length (now mem)) ⌝ }
-    ensures { λ r. ⌜ Follows extents plant (plantRule (sightOf (present extents) (now (mem .entry))) plant event) (now (mem .entry)) r (now (mem .exit)) ⌝ }
+    ensures { λ r. ⌜ Follows extents plant (plantRule (sightOf (present extents) (now (mem .entry))) plant event)
+        (now (mem .entry)) r (now (mem .exit)) ⌝ }
 {
     match event {
         Event::Call(c) => plant_call(extents, plant, mem, c),

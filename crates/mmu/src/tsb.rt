@@ -128,7 +128,9 @@ fn settled(verdict: Verdict, change: Change, tsbs: TsbList) -> Done
 fn set_tsbs(extents: Extents, mem: &[u8], ntsb: u64, pointer: u64, change: Change) -> Done
     requires { ⌜ extents .count ≤ extentLimit ⌝ }
     requires { ⌜ Ready (present extents) (length (now mem)) ⌝ }
-    ensures { λ r. ⌜ ((plant : PlantRecord) → Follows extents plant (setTsbs (sightOf (present extents) (now (mem .entry))) plant ntsb pointer change) (now (mem .entry)) r (now (mem .entry))) ⌝ }
+    ensures { λ r. ⌜ ((plant : PlantRecord) →
+        Follows extents plant (setTsbs (sightOf (present extents) (now (mem .entry))) plant ntsb pointer change)
+        (now (mem .entry)) r (now (mem .entry))) ⌝ }
 {
     let new = new_tsbs(extents, mem, ntsb, pointer);
     let verdict = new.verdict;
@@ -141,7 +143,9 @@ pub fn mmu_tsb_ctx0(extents: Extents, mem: &[u8], cpu: usize, ntsb: u64, pointer
     requires { ⌜ extents .count ≤ extentLimit ⌝ }
     requires { ⌜ Ready (present extents) (length (now mem)) ⌝ }
     requires { ⌜ cpu < cpuLimit ⌝ }
-    ensures { λ r. ⌜ ((plant : PlantRecord) → Follows extents plant (mmu-tsb-ctx0 (sightOf (present extents) (now (mem .entry))) plant cpu ntsb pointer) (now (mem .entry)) r (now (mem .entry))) ⌝ }
+    ensures { λ r. ⌜ ((plant : PlantRecord) →
+        Follows extents plant (mmu-tsb-ctx0 (sightOf (present extents) (now (mem .entry))) plant cpu ntsb pointer)
+        (now (mem .entry)) r (now (mem .entry))) ⌝ }
 {
     let change = Change::Cpu(cpu, CpuChange::Ctx0);
     set_tsbs(extents, mem, ntsb, pointer, change)
@@ -152,7 +156,9 @@ pub fn mmu_tsb_ctxnon0(extents: Extents, mem: &[u8], cpu: usize, ntsb: u64, poin
     requires { ⌜ extents .count ≤ extentLimit ⌝ }
     requires { ⌜ Ready (present extents) (length (now mem)) ⌝ }
     requires { ⌜ cpu < cpuLimit ⌝ }
-    ensures { λ r. ⌜ ((plant : PlantRecord) → Follows extents plant (mmu-tsb-ctxnon0 (sightOf (present extents) (now (mem .entry))) plant cpu ntsb pointer) (now (mem .entry)) r (now (mem .entry))) ⌝ }
+    ensures { λ r. ⌜ ((plant : PlantRecord) →
+        Follows extents plant (mmu-tsb-ctxnon0 (sightOf (present extents) (now (mem .entry))) plant cpu ntsb pointer)
+        (now (mem .entry)) r (now (mem .entry))) ⌝ }
 {
     let change = Change::Cpu(cpu, CpuChange::Ctxnon0);
     set_tsbs(extents, mem, ntsb, pointer, change)

@@ -207,7 +207,8 @@ fn send_all(
     requires { ⌜ (count ≤ length (now cpus)) × (count ≤ 64) ⌝ }
     requires { ⌜ ((i : ℕ) → i < count → getD (now cpus) i 0 < plant .cpus) ⌝ }
     requires { ⌜ valid (present extents) list (2 * count) ≡ true ⌝ }
-    ensures { λ r. ⌜ Puts extents (sendAll plant (take count (now (cpus .entry))) (now (packet .entry)) list) (now (mem .entry)) (record { plant = withTails plant (r .tails); all = r .all }) (now (mem .exit)) ⌝ }
+    ensures { λ r. ⌜ Puts extents (sendAll plant (take count (now (cpus .entry))) (now (packet .entry)) list)
+        (now (mem .entry)) (record { plant = withTails plant (r .tails); all = r .all }) (now (mem .exit)) ⌝ }
 {
     let mut tails = tails_of(plant);
     let mut all = true;
@@ -251,7 +252,8 @@ fn send_listed(
     requires { ⌜ count ≤ 64 ⌝ }
     requires { ⌜ valid (present extents) list (2 * count) ≡ true ⌝ }
     requires { ⌜ valid (present extents) «data» 64 ≡ true ⌝ }
-    ensures { λ r. ⌜ Follows extents plant (mondoSent (sightOf (present extents) (now (mem .entry))) plant cpu count list «data») (now (mem .entry)) r (now (mem .exit)) ⌝ }
+    ensures { λ r. ⌜ Follows extents plant (mondoSent (sightOf (present extents) (now (mem .entry))) plant cpu count list «data»)
+        (now (mem .entry)) r (now (mem .exit)) ⌝ }
 {
     let cpus = read_list(extents, mem, list, count);
     let verdict = judge_cpus(&cpus, count, cpu, plant.cpus);
@@ -280,7 +282,8 @@ pub fn cpu_mondo_send(
     data: u64,
 ) -> Done
     requires { ⌜ Sound extents plant (length (now mem)) ⌝ }
-    ensures { λ r. ⌜ Follows extents plant (cpu-mondo-send (sightOf (present extents) (now (mem .entry))) plant cpu count list «data») (now (mem .entry)) r (now (mem .exit)) ⌝ }
+    ensures { λ r. ⌜ Follows extents plant (cpu-mondo-send (sightOf (present extents) (now (mem .entry))) plant cpu count list «data»)
+        (now (mem .entry)) r (now (mem .exit)) ⌝ }
 {
     let verdict = judge_ranges(extents, count, list, data);
     match verdict {

@@ -44,7 +44,9 @@ pub fn begin() -> Feeder
 // Takes as much of the piece as there is room for answers: any byte can end a line, and an answer has at most REPLY bytes.
 // The entry is looked at once, and again after each image: no event changes what it comes to.
 pub fn feed(feeder: Feeder, mem: &mut [u8], piece: &[u8], out: &mut [u8]) -> Fed
-    ensures { λ r. ⌜ Feeds (feedOf feeder (now (mem .entry)) (now (piece .entry)) (now (out .entry))) (room (now (piece .entry)) (now (out .entry))) (now (out .entry)) r (now (mem .exit)) (now (out .exit)) ⌝ }
+    ensures { λ r. ⌜ Feeds (feedOf feeder (now (mem .entry)) (now (piece .entry)) (now (out .entry)))
+        (room (now (piece .entry)) (now (out .entry)))
+        (now (out .entry)) r (now (mem .exit)) (now (out .exit)) ⌝ }
 {
     let mut tables = feeder.tables;
     let mut line = feeder.line;
@@ -103,7 +105,9 @@ pub fn feed(feeder: Feeder, mem: &mut [u8], piece: &[u8], out: &mut [u8]) -> Fed
 
 // The end of the input ends a line that has been begun.
 pub fn finish(feeder: Feeder, mem: &mut [u8], out: &mut [u8]) -> Fed
-    ensures { λ r. ⌜ Feeds (feedOf feeder (now (mem .entry)) (ending (feeder .held)) (now (out .entry))) (room (ending (feeder .held)) (now (out .entry))) (now (out .entry)) r (now (mem .exit)) (now (out .exit)) ⌝ }
+    ensures { λ r. ⌜ Feeds (feedOf feeder (now (mem .entry)) (ending (feeder .held)) (now (out .entry)))
+        (room (ending (feeder .held)) (now (out .entry)))
+        (now (out .entry)) r (now (mem .exit)) (now (out .exit)) ⌝ }
 {
     if feeder.held == 0 {
         return feed(feeder, mem, b"", out);

@@ -17,7 +17,8 @@ ghost use Rattle.rules.specs.Limits.{sourceLimit};
 ghost use Rattle.rules.specs.Image.{named};
 ghost use Rattle.rules.specs.Kept.{withTarget};
 ghost use Rattle.rules.specs.Rulings.{outcomeOf};
-ghost use Rattle.rules.specs.Sources.{sysinoOf, targetNumber, get-enabled, set-enabled, get-state, set-state, get-target, set-target, get-cookie, set-cookie, intr-devino2sysino, intr, vintr};
+ghost use Rattle.rules.specs.Sources.{get-enabled, set-enabled, get-state, set-state, get-target, set-target, get-cookie, set-cookie};
+ghost use Rattle.rules.specs.Sources.{sysinoOf, targetNumber, intr-devino2sysino, intr, vintr};
 ghost use Rattle.plants.specs.Done.{quietly, saying};
 
 fn is_named(s: Source, devhandle: u64, devino: u64) -> bool

@@ -1,7 +1,8 @@
 // "The records of absent guests, cpus, extents, sources and list places stay so": unset, disabled, idle and 0. In tables that
 // hold, every record that is tested here is blank, so a test that looks at all of it, with no early return, loses nothing.
 ghost use mathlib.Core.Path.{_≡_};
-ghost use Rattle.rules.specs.Tables.{extentBlank, recordBlank, tsbBlank, tsbsBlank, cpuBlank, targetBlank, sourceBlank, versionsBlank, extentsBlank, plantBlank, guestBlank};
+ghost use Rattle.rules.specs.Tables.{extentBlank, recordBlank, tsbBlank, tsbsBlank, cpuBlank, targetBlank};
+ghost use Rattle.rules.specs.Tables.{sourceBlank, versionsBlank, extentsBlank, plantBlank, guestBlank};
 ghost use Rattle.tables.specs.Lists.{queuesBlank, cpusBlank, sourcesBlank};
 use rules::CPUS;
 use rules::Cpu;

@@ -19,7 +19,8 @@ pub enum Size {
 pub(crate) fn read_image(s: &[u8], from: usize, out: &mut [u8; 1024]) -> Size
     requires { ⌜ (from ≤ length (now s)) × (length (now s) ≤ 2048) ⌝ }
     ensures size { λ r. ⌜ r ≡ sizeOr (imageAt (drop from (now (s .entry)))) ⌝ }
-    ensures bytes { λ _. ⌜ ((bytes : List ℕ) → imageAt (drop from (now (s .entry))) ≡ some bytes → now (out .exit) ≡ sets (now (out .entry)) 0 bytes) ⌝ }
+    ensures bytes { λ _. ⌜ ((bytes : List ℕ) → imageAt (drop from (now (s .entry))) ≡ some bytes
+        → now (out .exit) ≡ sets (now (out .entry)) 0 bytes) ⌝ }
 {
     let mut n = 0;
     let mut high = NO_DIGIT;

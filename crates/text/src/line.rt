@@ -59,7 +59,8 @@ fn is_image(line: Line) -> bool
 
 // Writes the bytes of an image line to the front of out, and gives their number: 0, with nothing written, for any other line.
 pub fn image_bytes(s: &[u8], out: &mut [u8; 1024]) -> usize
-    ensures { λ r. ⌜ (r ≡ length (imageOf (parse (now (s .entry))))) × (now (out .exit) ≡ sets (now (out .entry)) 0 (imageOf (parse (now (s .entry))))) ⌝ }
+    ensures { λ r. ⌜ (r ≡ length (imageOf (parse (now (s .entry)))))
+        × (now (out .exit) ≡ sets (now (out .entry)) 0 (imageOf (parse (now (s .entry))))) ⌝ }
 {
     if !is_image(parse_line(s)) {
         return 0;

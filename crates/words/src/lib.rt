@@ -70,7 +70,9 @@ fn scrubbed(size: u64) -> u64
 pub fn mem_scrub(extents: Extents, mem: &mut [u8], address: u64, size: u64) -> Done
     requires { ⌜ extents .count ≤ extentLimit ⌝ }
     requires { ⌜ Ready (present extents) (length (now mem)) ⌝ }
-    ensures { λ r. ⌜ ((plant : PlantRecord) → Follows extents plant (mem-scrub (valid (present extents)) plant address size) (now (mem .entry)) r (now (mem .exit))) ⌝ }
+    ensures { λ r. ⌜ ((plant : PlantRecord) →
+        Follows extents plant (mem-scrub (valid (present extents)) plant address size)
+        (now (mem .entry)) r (now (mem .exit))) ⌝ }
 {
     let verdict = judge_pages(extents, address, size);
     match verdict {
@@ -99,7 +101,9 @@ pub fn mem_sync(extents: Extents, address: u64, size: u64) -> Done
 pub fn store_word(extents: Extents, mem: &mut [u8], address: u64, value: u64) -> Done
     requires { ⌜ extents .count ≤ extentLimit ⌝ }
     requires { ⌜ Ready (present extents) (length (now mem)) ⌝ }
-    ensures { λ r. ⌜ ((plant : PlantRecord) → Follows extents plant (store-word (valid (present extents)) plant address value) (now (mem .entry)) r (now (mem .exit))) ⌝ }
+    ensures { λ r. ⌜ ((plant : PlantRecord) →
+        Follows extents plant (store-word (valid (present extents)) plant address value)
+        (now (mem .entry)) r (now (mem .exit))) ⌝ }
 {
     let verdict = judge_word(extents, address);
     match verdict {
@@ -116,7 +120,9 @@ pub fn store_word(extents: Extents, mem: &mut [u8], address: u64, value: u64) ->
 pub fn load_word(extents: Extents, mem: &[u8], address: u64) -> Done
     requires { ⌜ extents .count ≤ extentLimit ⌝ }
     requires { ⌜ Ready (present extents) (length (now mem)) ⌝ }
-    ensures { λ r. ⌜ ((plant : PlantRecord) → Follows extents plant (load-word (sightOf (present extents) (now (mem .entry))) plant address) (now (mem .entry)) r (now (mem .entry))) ⌝ }
+    ensures { λ r. ⌜ ((plant : PlantRecord) →
+        Follows extents plant (load-word (sightOf (present extents) (now (mem .entry))) plant address)
+        (now (mem .entry)) r (now (mem .entry))) ⌝ }
 {
     let verdict = judge_word(extents, address);
     match verdict {
