@@ -1,4 +1,4 @@
-//! The readings of the open points on entry and calls.
+//! What the paper leaves open on entry and calls, as it is read here (docs/DECISIONS.md).
 
 use super::{check, check_prepared, IMAGE};
 
