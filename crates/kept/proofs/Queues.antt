@@ -1,6 +1,6 @@
 -- The queue calls, mondos among them, leave a record that keeps the rules.
 use mathlib.Core.Path.{_≡_, refl}
-use mathlib.Core.Bool.{Bool, true, false, _&&_, not}
+use mathlib.Core.Bool.{Bool, true, _&&_, not}
 use mathlib.Core.List.{List, [], _∷_, _++_}
 use Prim.Native.Nat.{ℕ, zero, suc, _+_, _*_, _%_, _<_}
 use native.Mathlib.Omega.{arith}
@@ -12,16 +12,16 @@ use Rattle.rules.specs.declared.Refusal.the-variants.{EINVAL, EBADALIGN, ENORAD
 use Rattle.rules.specs.declared.Ring.{Ring}
 use Rattle.rules.specs.Limits.{queueLimit}
 use Rattle.rules.specs.Scan.{someBelow, allBelow}
-use Rattle.rules.specs.Kept.{cpuAt, queueAt, cpuWithQueue, withQueue, withHead, withTail}
+use Rattle.rules.specs.Kept.{cpuAt, queueAt, cpuWithQueue, withQueue, withHead}
 use Rattle.rules.specs.Real.{Sight, bytesFrom}
 use Rattle.rules.specs.Rulings.{Ruling, granted, Outcome, done, _or-refuse_then_, _grants_, if_then_else_}
-use Rattle.rules.specs.Queues.{isQueue, indexOf, newRing, hasRoom, nextTail, forward, ringOf, cpu-qconf, write-head}
-use Rattle.rules.specs.Mondo.{entryAt, entries, cpuMondo, sendTo, sendOne, sendAll, sentAs, cpu-mondo-send}
+use Rattle.rules.specs.Queues.{isQueue, indexOf, newRing, putIn, put, forward, ringOf, cpu-qconf, write-head}
+use Rattle.rules.specs.Mondo.{entryAt, entries, sendOne, sendAll, sentAs, cpu-mondo-send}
 use Rattle.rules.specs.Tables.{recordRight, ringRight, plantKeeps}
 use Rattle.rules.proofs.Scan.{all-at}
 use Rattle.rules.proofs.Tests.{and-left, and-right}
 use Rattle.kept.proofs.Plants.{Kept, unchanged, further, cpu-there, cpu-replaced, queue-right, with-queue}
-use Rattle.kept.proofs.Rings.{new-ring-right, head-right, tail-right}
+use Rattle.kept.proofs.Rings.{new-ring-right, head-right, put-right}
 use Rattle.kept.proofs.Rulings.{Fine, fine-then, fine-grants, fine-if}
 
 module _ (v : ℕ → ℕ → Bool) (plant : Plant) (e : plantKeeps v plant ≡ true) (cpu : ℕ) (there : cpu < plant .cpus) where
@@ -31,7 +31,7 @@ module _ (v : ℕ → ℕ → Bool) (plant : Plant) (e : plantKeeps v plant ≡ 
   queue-kept q held r = cpu-replaced v plant e cpu (cpuWithQueue (cpuAt plant cpu) q held) there (with-queue v (cpuAt plant cpu) (cpu-there v plant e cpu there) q held r)
 
   -- a ring that is there is right
-  pub ring-there : (q : ℕ) (ring : Ring) → q < queueLimit → queueAt (cpuAt plant cpu) q ≡ QueueRecord.Set ring → ringRight v ring ≡ true
+  ring-there : (q : ℕ) (ring : Ring) → q < queueLimit → queueAt (cpuAt plant cpu) q ≡ QueueRecord.Set ring → ringRight v ring ≡ true
   ring-there q ring h p = rw p at (queue-right v (cpuAt plant cpu) (cpu-there v plant e cpu there) q h)
 
   pub qconf-fine : (queue base n : ℕ) → Fine v plant (cpu-qconf v plant cpu queue base n)
@@ -70,18 +70,16 @@ module _ (v : ℕ → ℕ → Bool) (plant : Plant) (e : plantKeeps v plant ≡ 
           (ltb value (ring .size) && leb (forward ring value) (forward ring (ring .tail))) or-refuse EINVAL then
           moved ring
 
-  -- one mondo
+  -- an entry that is put, and one mondo
+  pub put-kept : (queue : ℕ) (entry : List ℕ) → indexOf queue < queueLimit → Kept v plant (put plant cpu queue entry .plant)
+  unfolding put
+  put-kept queue entry h =
+      let held : QueueRecord = queueAt (cpuAt plant cpu) (indexOf queue) in
+      queue-kept (indexOf queue) (putIn held entry .held) (put-right v held entry (queue-right v (cpuAt plant cpu) (cpu-there v plant e cpu there) (indexOf queue) h))
+
   pub send-one : (packet : List ℕ) (mark : ℕ) → Kept v plant (sendOne plant cpu packet mark .plant)
   unfolding sendOne
-  send-one packet mark = go (queueAt (cpuAt plant cpu) cpuMondo) refl
-    where
-      go : (held : QueueRecord) → queueAt (cpuAt plant cpu) cpuMondo ≡ held → Kept v plant (sendTo plant cpu packet mark held .plant)
-      go QueueRecord.Unset p = unchanged v plant e
-      go (QueueRecord.Set ring) p = room (hasRoom ring) refl
-        where
-          room : (t : Bool) → hasRoom ring ≡ t → Kept v plant (sendTo plant cpu packet mark (QueueRecord.Set ring) .plant)
-          room true q = rw q (queue-kept cpuMondo (QueueRecord.Set (withTail ring (nextTail ring))) (tail-right v ring (ring-there cpuMondo ring (omega arith) p)))
-          room false q = rw q (unchanged v plant e)
+  send-one packet mark = put-kept 0x3c packet (omega arith)
 
 -- every number of a list is below a limit
 abbrev Below : ℕ → List ℕ → Type 0

@@ -1,15 +1,17 @@
 -- Rings that stay right.
 use mathlib.Core.Path.{_≡_, refl, sym, ap, _∙_}
-use mathlib.Core.Bool.{Bool, true, _&&_}
+use mathlib.Core.Bool.{Bool, true, false, _&&_}
+use mathlib.Core.List.{List}
 use Prim.Native.Nat.{ℕ, _*_, _/_, _%_, _<_}
 use native.Mathlib.Omega.{arith}
 use lib.Dec.{eqb}
 use borrow.Author.Tests.{lt-ltb, eq-eqb}
+use Rattle.rules.specs.declared.QueueRecord.{QueueRecord}
 use Rattle.rules.specs.declared.Ring.{Ring}
 use Rattle.rules.specs.Kept.{withHead, withTail}
 use Rattle.rules.specs.Rulings.{granted, accepts}
-use Rattle.rules.specs.Queues.{newRing, nextTail}
-use Rattle.rules.specs.Tables.{ringRight, placeRight}
+use Rattle.rules.specs.Queues.{newRing, hasRoom, nextTail, putIn}
+use Rattle.rules.specs.Tables.{recordRight, ringRight, placeRight}
 use Rattle.rules.proofs.Tests.{and-left, and-right}
 use Rattle.records.specs.Sound.{RingSound}
 use Rattle.records.specs.Verdict.{verdictOf}
@@ -58,3 +60,13 @@ module _ (v : ℕ → ℕ → Bool) (ring : Ring) (e : ringRight v ring ≡ true
   tail-right =
       let s : RingSound v (withTail ring (nextTail ring)) = tail-moved v ring (ring-sound v ring e) in
       rw (set-right, and-left (placeRight (ring .size) (ring .head)) _ places) (place-right (ring .size) (nextTail ring) (s .tail) (s .tail-below))
+
+-- a queue's record that an entry is put into
+pub put-right : (v : ℕ → ℕ → Bool) (held : QueueRecord) (entry : List ℕ) → recordRight v held ≡ true → recordRight v (putIn held entry .held) ≡ true
+unfolding putIn
+put-right v QueueRecord.Unset entry h = refl
+put-right v (QueueRecord.Set ring) entry h = go (hasRoom ring) refl
+  where
+    go : (t : Bool) → hasRoom ring ≡ t → recordRight v (putIn (QueueRecord.Set ring) entry .held) ≡ true
+    go true e = rw e (tail-right v ring h)
+    go false e = rw e h

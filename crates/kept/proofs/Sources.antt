@@ -7,24 +7,21 @@ use lib.Dec.{leb, ltb, eqb}
 use borrow.Author.Tests.{leb-true, ltb-true, eq-eqb, ne-eqb, eqb-false}
 use Rattle.rules.specs.declared.Found.{Found}
 use Rattle.rules.specs.declared.Plant.{Plant}
-use Rattle.rules.specs.declared.QueueRecord.{QueueRecord}
 use Rattle.rules.specs.declared.Refusal.{Refusal}
 use Rattle.rules.specs.declared.Refusal.the-variants.{EINVAL, ENOCPU, ENOTSUPPORTED, EBADTRAP, NoSource}
 use Rattle.rules.specs.declared.Answer.the-variants.{One}
-use Rattle.rules.specs.declared.Ring.{Ring}
 use Rattle.rules.specs.declared.Source.{Source}
 use Rattle.rules.specs.declared.Target.{Target}
 use Rattle.rules.specs.Limits.{devhandles, devinos}
-use Rattle.rules.specs.Kept.{cpuAt, queueAt, sourceAt, withSource, withQueue, withTail, withEnabled, withState, withTarget, withCookie}
+use Rattle.rules.specs.Kept.{sourceAt, withSource, withQueue, withEnabled, withState, withTarget, withCookie}
 use Rattle.rules.specs.Rulings.{Ruling, refused, granted, Outcome, says, done, _or-refuse_then_, if_then_else_}
-use Rattle.rules.specs.Queues.{hasRoom, nextTail}
-use Rattle.rules.specs.Sources.{sysinoOf, found, get-enabled, set-enabled, get-state, set-state, get-target, set-target, get-cookie, set-cookie, intr-devino2sysino, bySysino, byName, intr, vintr, devMondo, received, deliverTo, deliver, raiseAt, raise}
+use Rattle.rules.specs.Queues.{Put, put}
+use Rattle.rules.specs.Sources.{sysinoOf, found, get-enabled, set-enabled, get-state, set-state, get-target, set-target, get-cookie, set-cookie, intr-devino2sysino, bySysino, byName, intr, vintr, targetNumber, targetSet, deviceEntry, raiseAt, raise}
 use Rattle.rules.specs.Tables.{targetRight, cookieRight, enabledRight, sourceRight, plantKeeps}
 use Rattle.rules.proofs.Scan.{first-below}
 use Rattle.rules.proofs.Tests.{and-left, and-right}
 use Rattle.kept.proofs.Plants.{Kept, unchanged, further, source-there, source-replaced}
-use Rattle.kept.proofs.Rings.{tail-right}
-use Rattle.kept.proofs.Queues.{queue-kept, ring-there}
+use Rattle.kept.proofs.Queues.{put-kept}
 use Rattle.kept.proofs.Rulings.{Fine, fine-then, fine-grants, fine-if}
 
 -- the parts of the rule of a source, and the rule from its parts
@@ -156,43 +153,48 @@ module _ (v : ℕ → ℕ → Bool) (plant : Plant) (e : plantKeeps v plant ≡ 
       high z h = rw z at h
 
   -- the cpu of a target is there
-  target-there : (c : ℕ) → s .target ≡ Target.Cpu c → c < plant .cpus
-  target-there c p = ltb-true c (plant .cpus) (rw p at (target-part plant s right))
+  target-there : targetSet (s .target) ≡ true → targetNumber (s .target) < plant .cpus
+  target-there h = go (s .target) h (target-part plant s right)
+    where
+      go : (t : Target) → targetSet t ≡ true → targetRight (plant .cpus) t ≡ true → targetNumber t < plant .cpus
+      go Target.Unset h r = absurd (true≢false (sym h))
+      go (Target.Cpu c) h r = ltb-true c (plant .cpus) r
 
 -- a raise
 module _ (v : ℕ → ℕ → Bool) (plant : Plant) (e : plantKeeps v plant ≡ true) (i : ℕ) (there : i < plant .sources) where
-  abbrev put : ℕ → Ring → Plant
-  put c ring = withQueue plant c devMondo (QueueRecord.Set (withTail ring (nextTail ring)))
-
-  -- the entry is put, and then the state
-  delivered-kept : (c : ℕ) (ring : Ring) → Kept v plant (put c ring) → Kept v plant (withSource (put c ring) i (withState (sourceAt plant i) 2))
-  unfolding withQueue
-  delivered-kept c ring k = further v plant (put c ring) (withSource (put c ring) i (withState (sourceAt plant i) 2)) k (state-kept v (put c ring) (k .keeps) i there 2 refl)
+  abbrev entry : Put
+  entry = put plant (targetNumber (sourceAt plant i .target)) 0x3d (deviceEntry plant i)
 
   one-kept : Kept v plant (withSource plant i (withState (sourceAt plant i) 1))
   one-kept = state-kept v plant e i there 1 refl
 
-  to-ring : (c : ℕ) → c < plant .cpus → (held : QueueRecord) → queueAt (cpuAt plant c) devMondo ≡ held → Kept v plant (deliverTo plant i c held .plant)
-  to-ring c h QueueRecord.Unset p = one-kept
-  to-ring c h (QueueRecord.Set ring) p = room (hasRoom ring) refl
-    where
-      room : (t : Bool) → hasRoom ring ≡ t → Kept v plant (deliverTo plant i c (QueueRecord.Set ring) .plant)
-      room true q =
-          rw q
-          (delivered-kept c ring
-          (queue-kept v plant e c h devMondo (QueueRecord.Set (withTail ring (nextTail ring))) (tail-right v ring (ring-there v plant e c h devMondo ring (omega arith) p))))
-      room false q = rw q one-kept
-
-  to-target : (t : Target) → sourceAt plant i .target ≡ t → Kept v plant (deliver plant i t .plant)
-  to-target Target.Unset p = one-kept
-  to-target (Target.Cpu c) p = to-ring c (target-there v plant e i there c p) (queueAt (cpuAt plant c) devMondo) refl
+  -- the entry is put, and then the state
+  delivered-kept : targetNumber (sourceAt plant i .target) < plant .cpus → Kept v plant (withSource (entry .plant) i (withState (sourceAt plant i) 2))
+  unfolding put withQueue
+  delivered-kept h =
+      let k : Kept v plant (entry .plant) = put-kept v plant e (targetNumber (sourceAt plant i .target)) h 0x3d (deviceEntry plant i) (omega arith) in
+      further v plant (entry .plant) (withSource (entry .plant) i (withState (sourceAt plant i) 2)) k (state-kept v (entry .plant) (k .keeps) i there 2 refl)
 
   raise-at-fine : Fine v plant (raiseAt plant i)
   unfolding raiseAt
   raise-at-fine =
-      fine-if v plant (eqb (sourceAt plant i .state) 2) (says (One 2) plant) (if eqb (sourceAt plant i .enabled) 1 then granted (deliver plant i (sourceAt plant i .target)) else granted (received plant i))
+      fine-if v plant (eqb (sourceAt plant i .state) 2) (says (One 2) plant) (if goes then delivered else received)
       (λ _. unchanged v plant e)
-      (λ _. fine-if v plant (eqb (sourceAt plant i .enabled) 1) (granted (deliver plant i (sourceAt plant i .target))) (granted (received plant i)) (λ _. to-target (sourceAt plant i .target) refl) (λ _. one-kept))
+      (λ _. fine-if v plant goes delivered received
+      (λ h. delivered-kept (target-there v plant e i there (and-left set (entry .room) (and-right (eqb (sourceAt plant i .enabled) 1) (set && entry .room) h))))
+      (λ _. one-kept))
+    where
+      set : Bool
+      set = targetSet (sourceAt plant i .target)
+
+      goes : Bool
+      goes = eqb (sourceAt plant i .enabled) 1 && (set && entry .room)
+
+      delivered : Ruling Outcome
+      delivered = granted (record { answer = One 2; plant = withSource (entry .plant) i (withState (sourceAt plant i) 2); writes = entry .writes })
+
+      received : Ruling Outcome
+      received = says (One 1) (withSource plant i (withState (sourceAt plant i) 1))
 
 -- a source that is found is there
 found-there : (plant : Plant) (devhandle devino : ℕ) (r : Refusal) (i : ℕ) → found r (sysinoOf plant devhandle devino) ≡ granted i → i < plant .sources

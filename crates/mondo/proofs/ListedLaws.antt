@@ -31,8 +31,7 @@ use Rattle.plants.specs.declared.change.Done.{Done as Gave}
 use Rattle.plants.specs.Changes.{withTails, doneBy, changedBy, plantAfter}
 use Rattle.plants.specs.Follows.{Follows}
 use Rattle.plants.specs.Judged.{judged}
-use Rattle.plants.specs.Put.{Puts}
-use Rattle.mondo.specs.Steps.{mondoRanges, mondoCpus, mondoSent, sentBy}
+use Rattle.mondo.specs.Steps.{mondoRanges, mondoCpus, mondoSent, Sends, sentBy}
 use Rattle.plants.proofs.JudgedLaws.{judged-refused, judged-right, judged-told}
 use Rattle.plants.proofs.OutcomeLaws.{quiet-refused}
 
@@ -106,7 +105,7 @@ module _ (extents : Extents) (plant : Plant) (m cs : List ℕ) (cpu count list a
   listed-refused r d h g = quiet-refused extents plant _ m d r g (cpus-same _ list cs count e _ _ _ ∙ judged-refused asked t f r h _)
 
   module _ (h : t ≡ Right) (packet : List ℕ) (p : packet ≡ bytesFrom (byteAt (present extents) m) at 64) (tails : List ℕ) (all : Bool) (m′ : List ℕ)
-      (g : Puts extents (sendAll plant (take count cs) packet list) m (record { plant = withTails plant tails; all = all }) m′) (d : Gave) where
+      (g : Sends extents (sendAll plant (take count cs) packet list) m (record { plant = withTails plant tails; all = all }) m′) (d : Gave) where
     pub listed-sent : all ≡ true → d ≡ sentBy Done tails → Follows extents plant (mondoSent (sightOf (present extents) m) plant cpu count list at) m d m′
     unfolding mondoSent sentBy plantAfter changedBy
     listed-sent k n =

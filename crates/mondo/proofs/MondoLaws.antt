@@ -1,7 +1,7 @@
 -- 0x42's rule at each return of the code, from the tests on the way.
 use mathlib.Core.Path.{_≡_, refl, ap, _∙_}
 use mathlib.Core.Bool.{Bool, true, false, _&&_, not}
-use mathlib.Core.List.{List, [], _∷_, _++_, append-nil}
+use mathlib.Core.List.{List, [], _∷_, append-nil}
 use Prim.Native.Nat.{ℕ, _+_, _*_, _%_, _≤_, _<_}
 use native.Mathlib.Numerals.{add-one}
 use native.Mathlib.Omega.{arith}
@@ -13,22 +13,20 @@ use Rattle.rules.specs.declared.Extents.{Extents}
 use Rattle.rules.specs.declared.Plant.{Plant}
 use Rattle.rules.specs.declared.QueueRecord.{QueueRecord}
 use Rattle.rules.specs.declared.Refusal.the-variants.{EINVAL, EBADALIGN, ENORADDR, ENOCPU}
-use Rattle.rules.specs.declared.Ring.{Ring}
 use Rattle.rules.specs.Kept.{cpuAt, queueAt, withQueue}
 use Rattle.rules.specs.Scan.{someBelow, allBelow}
 use Rattle.rules.specs.Real.{apply}
-use Rattle.rules.specs.Rulings.{Ruling, Outcome, if_then_else_}
-use Rattle.rules.specs.Queues.{hasRoom}
-use Rattle.rules.specs.Mondo.{entryAt, entries, Sent, sendTo, sendOne}
+use Rattle.rules.specs.Rulings.{Ruling, Outcome}
+use Rattle.rules.specs.Queues.{putIn, put}
+use Rattle.rules.specs.Mondo.{entryAt, entries, sendOne}
 use Rattle.memory.specs.Cells.{one}
 use Rattle.memory.specs.Ready.{present}
 use Rattle.memory.proofs.Writes.{apply-append}
 use Rattle.records.specs.declared.Verdict.the-variants.{Right, Refused as Told}
 use Rattle.plants.specs.declared.rings.Put.{Put}
 use Rattle.plants.specs.Judged.{judged}
-use Rattle.plants.specs.Put.{putOne, putTo, Puts, putIn, PutsIn}
-use Rattle.plants.proofs.PutLaws.{put-is}
-use Rattle.mondo.specs.Steps.{mondoRanges, mondoCpus, sendIn}
+use Rattle.plants.specs.Put.{PutsIn}
+use Rattle.mondo.specs.Steps.{mondoRanges, mondoCpus, sendIn, Sends}
 
 -- what is asked before the list is read
 module _ (v : ℕ → ℕ → Bool) (count list at : ℕ) (rest : Ruling Outcome) where
@@ -100,25 +98,9 @@ module _ (extents : Extents) (held : QueueRecord) (m packet : List ℕ) (mark : 
   unfolding sendIn
   one-sent m₂ h w = record { held = f .held; room = f .room; memory = w ∙ rw (f .memory, ← f .room, h, apply-append) }
 
--- one cpu: the entry is put, and marked if it was
-module _ (plant : Plant) (cpu : ℕ) (packet : List ℕ) (mark : ℕ) where
-  abbrev marked : Sent → Sent
-  marked sent = record { plant = sent .plant; all = sent .all; writes = sent .writes ++ (if sent .all then one mark (0xff ∷ 0xff ∷ []) else []) }
-
-  one-is : sendOne plant cpu packet mark ≡ marked (putOne plant cpu 0 packet)
-  unfolding sendOne putOne
-  one-is = go (queueAt (cpuAt plant cpu) 0)
-    where
-      by : (ring : Ring) (b : Bool) → hasRoom ring ≡ b → sendTo plant cpu packet mark (QueueRecord.Set ring) ≡ marked (putTo plant cpu 0 packet (QueueRecord.Set ring))
-      by ring true e = rw e
-      by ring false e = rw e
-
-      go : (held : QueueRecord) → sendTo plant cpu packet mark held ≡ marked (putTo plant cpu 0 packet held)
-      go QueueRecord.Unset = refl
-      go (QueueRecord.Set ring) = by ring (hasRoom ring) refl
-
-  -- the ring's record, put back
-  pub one-plant : (extents : Extents) (m : List ℕ) (r : Put) (m′ : List ℕ) → PutsIn extents (sendIn (queueAt (cpuAt plant cpu) 0) packet mark) m r m′
-      → Puts extents (sendOne plant cpu packet mark) m (record { plant = withQueue plant cpu 0 (r .held); all = r .room }) m′
-  unfolding sendIn
-  one-plant extents m r m′ f = rw (one-is, put-is plant cpu 0 packet) (record { plant = ap (withQueue plant cpu 0) (f .held); all = f .room; memory = f .memory })
+-- one cpu: the ring's record, put back
+pub one-plant : (plant : Plant) (cpu : ℕ) (packet : List ℕ) (mark : ℕ) (extents : Extents) (m : List ℕ) (r : Put) (m′ : List ℕ)
+    → PutsIn extents (sendIn (queueAt (cpuAt plant cpu) 0) packet mark) m r m′
+    → Sends extents (sendOne plant cpu packet mark) m (record { plant = withQueue plant cpu 0 (r .held); all = r .room }) m′
+unfolding sendIn sendOne put
+one-plant plant cpu packet mark extents m r m′ f = record { plant = ap (withQueue plant cpu 0) (f .held); all = f .room; memory = f .memory }

@@ -16,15 +16,15 @@ use Rattle.rules.specs.declared.QueueRecord.{QueueRecord}
 use Rattle.rules.specs.declared.Ring.{Ring}
 use Rattle.rules.specs.Kept.{blankQueue, hollowCpu, cpuAt, queueAt, cpuWithQueue, withQueue, withTail}
 use Rattle.rules.specs.Real.{valid}
-use Rattle.rules.specs.Queues.{hasRoom}
+use Rattle.rules.specs.Queues.{hasRoom, putIn}
 use Rattle.rules.specs.Mondo.{sendOne}
 use Rattle.memory.specs.Ready.{present}
 use Rattle.records.specs.Sound.{RecordSound}
 use Rattle.plants.specs.declared.rings.Put.{Put}
 use Rattle.plants.specs.Changes.{atTail, cpuAtTail, mapFirst, withTails}
-use Rattle.plants.specs.Put.{putIn, Puts, PutsIn, HeldSound}
+use Rattle.plants.specs.Put.{PutsIn, HeldSound}
 use Rattle.plants.proofs.MapLaws.{map-read, map-store, map-same}
-use Rattle.mondo.specs.Steps.{tailOf, sendIn}
+use Rattle.mondo.specs.Steps.{tailOf, sendIn, Sends}
 use Rattle.mondo.proofs.MondoLaws.{one-plant}
 
 -- one cpu's record
@@ -102,7 +102,7 @@ module _ (extents : Extents) (plant : Plant) (tails : List ℕ) (c : ℕ) (h : c
   now-sound s = subst (RecordSound (valid (present extents))) (ring-there plant tails c h ∙ sym e) s
 
   pub tail-sent : (packet : List ℕ) (mark : ℕ) (m : List ℕ) (r : Put) (m′ : List ℕ) (t : ℕ) → c < length tails → PutsIn extents (sendIn now packet mark) m r m′ → t ≡ tailOf (r .held)
-      → Puts extents (sendOne (withTails plant tails) c packet mark) m (record { plant = withTails plant (set tails c t); all = r .room }) m′
+      → Sends extents (sendOne (withTails plant tails) c packet mark) m (record { plant = withTails plant (set tails c t); all = r .room }) m′
   unfolding sendIn
   tail-sent packet mark m r m′ t k f v =
       let moved : r .held ≡ atTail (queueAt (cpuAt plant c) 0) t =

@@ -10,17 +10,15 @@ use lib.ListN.{length, getD, take}
 use lib.Seq.{slice, slice-cons, slice-empty}
 use Rattle.rules.specs.declared.Extents.{Extents}
 use Rattle.rules.specs.declared.Plant.{Plant}
-use Rattle.rules.specs.declared.QueueRecord.{QueueRecord}
-use Rattle.rules.specs.declared.Ring.{Ring}
 use Rattle.rules.specs.Kept.{cpuAt, queueAt, withQueue}
 use Rattle.rules.specs.Real.{apply}
-use Rattle.rules.specs.Queues.{hasRoom}
-use Rattle.rules.specs.Mondo.{Sent, sendTo, sendOne, sendAll}
+use Rattle.rules.specs.Queues.{put}
+use Rattle.rules.specs.Mondo.{Sent, sendOne, sendAll}
 use Rattle.memory.specs.Ready.{present}
 use Rattle.memory.proofs.Writes.{apply-append}
 use Rattle.records.specs.Sound.{Sound}
-use Rattle.plants.specs.Put.{Told, Puts}
-use Rattle.plants.proofs.SoundAfter.{queue-replaced, tail-moved}
+use Rattle.plants.proofs.SoundAfter.{queue-replaced, put-sound}
+use Rattle.mondo.specs.Steps.{Told, Sends}
 
 -- what one step keeps
 pub record Keeps (extents : Extents) (n cpus : ℕ) (plant : Plant) : Type 0 where
@@ -29,19 +27,8 @@ pub record Keeps (extents : Extents) (n cpus : ℕ) (plant : Plant) : Type 0 whe
 
 one-keeps : (extents : Extents) (plant : Plant) (n cpu : ℕ) (packet : List ℕ) (mark : ℕ) → Sound extents plant n → cpu < plant .cpus
     → Keeps extents n (plant .cpus) (sendOne plant cpu packet mark .plant)
-unfolding sendOne withQueue
-one-keeps extents plant n cpu packet mark s a = go (queueAt (cpuAt plant cpu) 0) refl
-  where
-    still : Keeps extents n (plant .cpus) plant
-    still = record { sound = s; same = refl }
-
-    by : (ring : Ring) (b : Bool) → queueAt (cpuAt plant cpu) 0 ≡ QueueRecord.Set ring → hasRoom ring ≡ b → Keeps extents n (plant .cpus) (sendTo plant cpu packet mark (QueueRecord.Set ring) .plant)
-    by ring true e h = rw h (record { sound = queue-replaced extents plant n cpu 0 _ s a (tail-moved _ ring (rw e at (s .rings cpu 0 a (omega arith)))); same = refl })
-    by ring false e h = rw h still
-
-    go : (held : QueueRecord) → queueAt (cpuAt plant cpu) 0 ≡ held → Keeps extents n (plant .cpus) (sendTo plant cpu packet mark held .plant)
-    go QueueRecord.Unset e = still
-    go (QueueRecord.Set ring) e = by ring (hasRoom ring) e refl
+unfolding sendOne put withQueue
+one-keeps extents plant n cpu packet mark s a = record { sound = queue-replaced extents plant n cpu 0 _ s a (put-sound _ (queueAt (cpuAt plant cpu) 0) packet (s .rings cpu 0 a (omega arith))); same = refl }
 
 and-assoc : (a b c : Bool) → (a && (b && c)) ≡ ((a && b) && c)
 and-assoc true b c = refl
@@ -67,7 +54,7 @@ module _ (extents : Extents) (plant₀ : Plant) (m₀ cs packet : List ℕ) (lis
       record { kept = record { sound = s; same = refl }; plant-is = rw e refl; all-is = rw e refl; memory-is = rw e refl }
 
   pub sending-more : (plant : Plant) (m : List ℕ) (all : Bool) (i : ℕ) (r : Told) (m′ : List ℕ) → Sending plant m all i → i < count → count ≤ length cs → getD cs i 0 < plant₀ .cpus
-      → Puts extents (sendOne plant (getD cs i 0) packet (list + 2 * i)) m r m′ → length m′ ≡ length m → Sending (r .plant) m′ (all && r .all) (i + 1)
+      → Sends extents (sendOne plant (getD cs i 0) packet (list + 2 * i)) m r m′ → length m′ ≡ length m → Sending (r .plant) m′ (all && r .all) (i + 1)
   unfolding sendAll
   sending-more plant m all i r m′ s h l a f n =
       let o : Sent = sendOne plant (getD cs i 0) packet (list + 2 * i) in
@@ -82,7 +69,7 @@ module _ (extents : Extents) (plant₀ : Plant) (m₀ cs packet : List ℕ) (lis
         memory-is = s .memory-is ∙ rw key (apply-append (present extents) (o .writes) (t .writes) m ∙ rw (f .memory) refl);
       }
 
-  pub sending-done : (plant : Plant) (m : List ℕ) (all : Bool) (i : ℕ) → Sending plant m all i → i ≤ count → count ≤ i → Puts extents whole m₀ (record { plant = plant; all = all }) m
+  pub sending-done : (plant : Plant) (m : List ℕ) (all : Bool) (i : ℕ) → Sending plant m all i → i ≤ count → count ≤ i → Sends extents whole m₀ (record { plant = plant; all = all }) m
   unfolding sendAll apply
   sending-done plant m all i s h l =
       let e : i ≡ count = omega arith in

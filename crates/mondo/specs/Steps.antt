@@ -1,21 +1,23 @@
 -- The steps of 0x42's rule that are functions of their own in the code.
+use mathlib.Core.Path.{_≡_}
 use mathlib.Core.Bool.{Bool, _&&_, not}
-use mathlib.Core.List.{List, [], _∷_, _++_}
+use mathlib.Core.List.{List, _++_}
 use Prim.Native.Nat.{ℕ, _*_, _%_}
 use lib.Dec.{leb, ltb, eqb}
 use Rattle.rules.specs.declared.Answer.{Answer}
+use Rattle.rules.specs.declared.Extents.{Extents}
 use Rattle.rules.specs.declared.Plant.{Plant}
 use Rattle.rules.specs.declared.QueueRecord.{QueueRecord}
 use Rattle.rules.specs.declared.Refusal.the-variants.{EINVAL, EBADALIGN, ENORADDR, ENOCPU}
 use Rattle.rules.specs.Scan.{someBelow, allBelow}
-use Rattle.rules.specs.Real.{Sight, bytesFrom}
-use Rattle.rules.specs.Rulings.{Ruling, granted, Outcome, _or-refuse_then_, if_then_else_}
-use Rattle.rules.specs.Mondo.{entryAt, entries, sendAll, sentAs}
-use Rattle.memory.specs.Cells.{one}
+use Rattle.rules.specs.Real.{Sight, bytesFrom, apply}
+use Rattle.rules.specs.Rulings.{Ruling, granted, Outcome, _or-refuse_then_}
+use Rattle.rules.specs.Queues.{PutIn, putIn}
+use Rattle.rules.specs.Mondo.{entryAt, entries, Sent, marked, sendAll, sentAs}
+use Rattle.memory.specs.Ready.{present}
 use Rattle.plants.specs.declared.change.Change.{Change}
 use Rattle.plants.specs.declared.change.Done.{Done}
 use Rattle.plants.specs.Changes.{doneBy}
-use Rattle.plants.specs.Put.{PutIn, putIn}
 
 -- what is asked before the list is read
 unfoldable pub mondoRanges : (ℕ → ℕ → Bool) → ℕ → ℕ → ℕ → Ruling Outcome → Ruling Outcome
@@ -42,7 +44,18 @@ mondoSent sight plant cpu count list dataAt =
 unfoldable pub sendIn : QueueRecord → List ℕ → ℕ → PutIn
 sendIn held packet mark =
     let p : PutIn = putIn held packet in
-    record { held = p .held; room = p .room; writes = p .writes ++ (if p .room then one mark (0xff ∷ 0xff ∷ []) else []) }
+    record { room = p .room; held = p .held; writes = p .writes ++ marked mark (p .room) }
+
+-- what sending has come to, as the code gives it back
+pub record Told : Type 0 where
+  pub plant : Plant
+  pub all : Bool
+
+-- what the code gives back, and what it leaves in memory, is what was sent
+pub record Sends (extents : Extents) (sent : Sent) (before : List ℕ) (r : Told) (after : List ℕ) : Type 0 where
+  pub plant : r .plant ≡ sent .plant
+  pub all : r .all ≡ sent .all
+  pub memory : after ≡ apply (present extents) before (sent .writes)
 
 -- where the tail of a ring stands; a queue without a ring has none
 unfoldable pub tailOf : QueueRecord → ℕ

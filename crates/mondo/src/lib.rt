@@ -29,8 +29,8 @@ ghost use Rattle.records.specs.Sound.{Sound};
 ghost use Rattle.plants.specs.Changes.{withTails};
 ghost use Rattle.plants.specs.Follows.{Follows};
 ghost use Rattle.plants.specs.Judged.{judged};
-ghost use Rattle.plants.specs.Put.{Puts, PutsIn, HeldSound};
-ghost use Rattle.mondo.specs.Steps.{mondoRanges, mondoCpus, mondoSent, sendIn, tailOf, sentBy};
+ghost use Rattle.plants.specs.Put.{PutsIn, HeldSound};
+ghost use Rattle.mondo.specs.Steps.{mondoRanges, mondoCpus, mondoSent, sendIn, Sends, tailOf, sentBy};
 
 // The longest list.
 const MONDOS: usize = 64;
@@ -207,7 +207,7 @@ fn send_all(
     requires { ⌜ (count ≤ length (now cpus)) × (count ≤ 64) ⌝ }
     requires { ⌜ ((i : ℕ) → i < count → getD (now cpus) i 0 < plant .cpus) ⌝ }
     requires { ⌜ valid (present extents) list (2 * count) ≡ true ⌝ }
-    ensures { λ r. ⌜ Puts extents (sendAll plant (take count (now (cpus .entry))) (now (packet .entry)) list)
+    ensures { λ r. ⌜ Sends extents (sendAll plant (take count (now (cpus .entry))) (now (packet .entry)) list)
         (now (mem .entry)) (record { plant = withTails plant (r .tails); all = r .all }) (now (mem .exit)) ⌝ }
 {
     let mut tails = tails_of(plant);

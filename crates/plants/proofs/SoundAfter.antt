@@ -17,7 +17,7 @@ use Rattle.rules.specs.declared.QueueRecord.{QueueRecord}
 use Rattle.rules.specs.declared.Ring.{Ring}
 use Rattle.rules.specs.Kept.{blankQueue, hollowCpu, cpuAt, queueAt, cpuWithQueue, withQueue, withTail}
 use Rattle.rules.specs.Real.{valid}
-use Rattle.rules.specs.Queues.{nextTail}
+use Rattle.rules.specs.Queues.{nextTail, hasRoom, putIn}
 use Rattle.memory.specs.Ready.{present}
 use Rattle.records.specs.Sound.{RingSound, RecordSound, Sound}
 
@@ -75,3 +75,13 @@ tail-moved v ring r = go (eqb (ring .tail + 64) (ring .size)) refl
     go false e =
         let z : ring .tail + 64 < ring .size = omega (arith, eqb-false (ring .tail + 64) (ring .size) e, r .tail, r .whole, r .tail-below) in
         at (ring .tail + 64) (mod-eq-of-lt z) (omega (arith, r .tail)) z
+
+-- a record that an entry is put into stays sound
+pub put-sound : (v : ℕ → ℕ → Bool) (held : QueueRecord) (entry : List ℕ) → RecordSound v held → RecordSound v (putIn held entry .held)
+unfolding putIn
+put-sound v QueueRecord.Unset entry h = h
+put-sound v (QueueRecord.Set ring) entry h = go (hasRoom ring) refl
+  where
+    go : (b : Bool) → hasRoom ring ≡ b → RecordSound v (putIn (QueueRecord.Set ring) entry .held)
+    go true e = rw e (tail-moved v ring h)
+    go false e = rw e h

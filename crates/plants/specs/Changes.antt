@@ -12,9 +12,8 @@ use Rattle.rules.specs.declared.Source.{Source}
 use Rattle.rules.specs.declared.TsbList.{TsbList}
 use Rattle.rules.specs.Limits.{cpuLimit, queueLimit, sourceLimit}
 use Rattle.rules.specs.Kept.{blankTsbs, cpuAt, queueAt, withVersions, withCpu, withQueue, withSource, withTail, cpuWithQueue, cpuWithCtx0, cpuWithCtxnon0, cpuWithStatistics}
-use Rattle.rules.specs.Mondo.{cpuMondo}
+use Rattle.rules.specs.Queues.{indexOf}
 use Rattle.rules.specs.Rulings.{if_then_else_}
-use Rattle.rules.specs.Sources.{devMondo}
 use Rattle.rules.specs.Versions.{allDisabled}
 use Rattle.plants.specs.declared.change.Change.{Change}
 use Rattle.plants.specs.declared.change.CpuChange.{CpuChange}
@@ -39,7 +38,7 @@ atTail QueueRecord.Unset tail = QueueRecord.Unset
 atTail (QueueRecord.Set ring) tail = QueueRecord.Set (withTail ring tail)
 
 unfoldable pub cpuAtTail : Cpu → ℕ → Cpu
-cpuAtTail cpu tail = cpuWithQueue cpu cpuMondo (atTail (queueAt cpu cpuMondo) tail)
+cpuAtTail cpu tail = cpuWithQueue cpu (indexOf 0x3c) (atTail (queueAt cpu (indexOf 0x3c)) tail)
 
 -- the first n of a list made anew, each by its place
 unfoldable pub mapFirst : {A : Type 0} → (ℕ → A → A) → ℕ → List A → List A
@@ -72,7 +71,7 @@ changedBy plant tsbs tails (Change.Disabled v) = allDisabled (withVersions plant
 changedBy plant tsbs tails (Change.Cpu c part) = if ltb c cpuLimit then withCpu plant c (cpuAfter (cpuAt plant c) tsbs part) else plant
 changedBy plant tsbs tails (Change.Source i source) = if ltb i sourceLimit then withSource plant i source else plant
 changedBy plant tsbs tails (Change.Delivered i source c held) =
-    if ltb i sourceLimit && ltb c cpuLimit then withSource (withQueue plant c devMondo held) i source else plant
+    if ltb i sourceLimit && ltb c cpuLimit then withSource (withQueue plant c (indexOf 0x3d) held) i source else plant
 changedBy plant tsbs tails Change.Tails = withTails plant tails
 
 unfoldable pub plantAfter : Plant → Done → Plant

@@ -8,9 +8,9 @@ ghost use mathlib.Core.Path.{_≡_};
 ghost use Prim.Native.Nat.{_<_, _≤_};
 ghost use lib.ListN.{length};
 ghost use Rattle.rules.specs.Limits.{extentLimit};
-ghost use Rattle.rules.specs.Queues.{nextTail};
+ghost use Rattle.rules.specs.Queues.{nextTail, putIn};
 ghost use Rattle.memory.specs.Ready.{Ready, present};
-ghost use Rattle.plants.specs.Put.{putIn, PutsIn, HeldSound};
+ghost use Rattle.plants.specs.Put.{PutsIn, HeldSound};
 
 // What putting an entry has come to: the queue's record, and whether there was a ring with room.
 pub struct Put {

@@ -19,17 +19,16 @@ use Rattle.rules.specs.declared.QueueRecord.{QueueRecord}
 use Rattle.rules.specs.declared.Refusal.{Refusal}
 use Rattle.rules.specs.declared.Refusal.the-variants.{EINVAL, EBADALIGN, ENORADDR, ENOCPU, EBADTRAP, ENOTSUPPORTED, EWOULDBLOCK, NoCaller, NoSource, BadTables, ShortMemory}
 use Rattle.rules.specs.declared.Tables.{Tables}
-use Rattle.rules.specs.declared.Target.{Target}
 use Rattle.rules.specs.Scan.{someBelow, allBelow}
 use Rattle.rules.specs.Kept.{plantAt, cpuAt, queueAt, sourceAt, extentsOf, hollowGuest, withStatistics}
 use Rattle.rules.specs.Real.{Sight, sightOf, bytesFrom, apply}
 use Rattle.rules.specs.Rulings.{Ruling, refused, granted, Outcome, outcomeOf, says, _or-refuse_then_, _grants_, if_then_else_}
 use Rattle.rules.specs.Versions.{groupOf, known, majorOf, newest, set-version, get-version}
-use Rattle.rules.specs.Queues.{isQueue, forward, hasRoom, newRing, ringOf, baseAndSize, cpu-qconf, cpu-qinfo, cpu-myid, write-head}
+use Rattle.rules.specs.Queues.{isQueue, forward, newRing, put, ringOf, baseAndSize, cpu-qconf, cpu-qinfo, cpu-myid, write-head}
 use Rattle.rules.specs.Mondo.{entryAt, entries, Sent, sendAll, sentAs, cpu-mondo-send}
 use Rattle.rules.specs.Tsb.{newTsbs, mmu-tsb-ctx0, mmu-tsb-ctxnon0}
 use Rattle.rules.specs.Memory.{wholePages, mem-scrub, mem-sync, wholeWord, store-word, load-word, newStatistics, setOrClear, mmustat-conf, mmustat-info}
-use Rattle.rules.specs.Sources.{found, sysinoOf, devMondo, deliver, deliverTo, get-enabled, set-enabled, get-state, set-state, get-target, set-target, get-cookie, set-cookie, intr-devino2sysino, bySysino, byName, intr, vintr, raiseAt, raise}
+use Rattle.rules.specs.Sources.{found, sysinoOf, targetNumber, targetSet, deviceEntry, get-enabled, set-enabled, get-state, set-state, get-target, set-target, get-cookie, set-cookie, intr-devino2sysino, bySysino, byName, intr, vintr, raiseAt, raise}
 use Rattle.rules.specs.Calls.{functionOf, admitted, perform, call}
 use Rattle.rules.specs.Tables.{keepRules}
 use Rattle.rules.specs.Host.{HostOutcome, plantRule, ownerOf, longEnough, answeredBy, hostOutcomeOf, hostRule, hostEvent}
@@ -210,24 +209,13 @@ module _ (plant : Plant) (r : Refusal) where
       (still-if (eqb function 0xae) _ _ (set-target-still i value) (still-refused EBADTRAP))))))))))
 
   -- a raise
-  ring-accepting : (i c : ℕ) (q : QueueRecord) → accepting (deliverTo plant i c q .answer) ≡ true
-  ring-accepting i c QueueRecord.Unset = refl
-  ring-accepting i c (QueueRecord.Set ring) = room (hasRoom ring) refl
-    where
-      room : (t : Bool) → hasRoom ring ≡ t → accepting (deliverTo plant i c (QueueRecord.Set ring) .answer) ≡ true
-      room true q = rw q
-      room false q = rw q
-
-  deliver-accepting : (i : ℕ) (t : Target) → accepting (deliver plant i t .answer) ≡ true
-  deliver-accepting i Target.Unset = refl
-  deliver-accepting i (Target.Cpu c) = ring-accepting i c (queueAt (cpuAt plant c) devMondo)
-
   raise-still : (devhandle devino : ℕ) → Still (raise plant devhandle devino)
   unfolding raise raiseAt
   raise-still devhandle devino =
       still-grants (found NoSource (sysinoOf plant devhandle devino)) _ (λ i.
       still-if (eqb (sourceAt plant i .state) 2) _ _ (still-granted _ refl)
-      (still-if (eqb (sourceAt plant i .enabled) 1) _ _ (still-granted _ (deliver-accepting i (sourceAt plant i .target))) (still-granted _ refl)))
+      (still-if (eqb (sourceAt plant i .enabled) 1 && (targetSet (sourceAt plant i .target) && put plant (targetNumber (sourceAt plant i .target)) 0x3d (deviceEntry plant i) .room)) _ _
+      (still-granted _ refl) (still-granted _ refl)))
 
   -- every call
   module _ (sight : Sight) (c : Call) where

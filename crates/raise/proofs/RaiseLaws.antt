@@ -1,7 +1,7 @@
 -- The rule of a raise at each return of the code, from the tests on the way.
-use mathlib.Core.Path.{_≡_, refl, ap, _∙_, subst}
-use mathlib.Core.Bool.{Bool, true, false, not}
-use mathlib.Core.List.{List}
+use mathlib.Core.Path.{_≡_, refl, sym, ap, _∙_, subst}
+use mathlib.Core.Bool.{Bool, true, false, not, true≢false}
+use mathlib.Core.List.{List, []}
 use Prim.Native.Nat.{ℕ, _<_}
 use native.Mathlib.Omega.{arith}
 use lib.ListN.{length, replicate}
@@ -14,23 +14,22 @@ use Rattle.rules.specs.declared.QueueRecord.{QueueRecord}
 use Rattle.rules.specs.declared.Ring.{Ring}
 use Rattle.rules.specs.declared.Target.{Target}
 use Rattle.rules.specs.Limits.{cpuLimit, sourceLimit}
-use Rattle.rules.specs.Kept.{cpuAt, queueAt, sourceAt, withQueue, withSource, withState}
-use Rattle.rules.specs.Real.{wordBytes}
-use Rattle.rules.specs.Rulings.{granted, Outcome, if_then_else_, says}
-use Rattle.rules.specs.Queues.{hasRoom}
-use Rattle.rules.specs.Mondo.{Sent}
-use Rattle.rules.specs.Sources.{deviceEntry, deliverTo, deliver, raiseAt}
+use Rattle.rules.specs.Kept.{cpuAt, queueAt, sourceAt, withSource, withState}
+use Rattle.rules.specs.Real.{wordBytes, apply}
+use Rattle.rules.specs.Rulings.{Ruling, granted, Outcome, if_then_else_, says}
+use Rattle.rules.specs.Queues.{hasRoom, putIn, Put, put}
+use Rattle.rules.specs.Sources.{deviceEntry, raiseAt}
+use Rattle.memory.specs.Ready.{present}
 use Rattle.records.specs.Sound.{TargetSound, Sound}
 use Rattle.plants.specs.declared.change.Change.{Change}
 use Rattle.plants.specs.declared.change.Done.{Done}
-use Rattle.plants.specs.declared.rings.Put.{Put}
+use Rattle.plants.specs.declared.rings.Put.{Put as Told}
 use Rattle.plants.specs.Changes.{doneBy, plantAfter}
 use Rattle.plants.specs.Follows.{Follows}
-use Rattle.plants.specs.Put.{putOne, putTo, Puts, putIn, PutsIn}
+use Rattle.plants.specs.Put.{PutsIn}
 use Rattle.plants.proofs.ChangeLaws.{source-after, delivered-after}
 use Rattle.plants.proofs.OutcomeLaws.{quiet, quiet-told, source-changes}
-use Rattle.plants.proofs.PutLaws.{puts-plant}
-use Rattle.raise.specs.Raised.{deviceWord, entryOf, becoming, delivering}
+use Rattle.raise.specs.Raised.{deviceWord, entryOf, becoming, Delivers}
 
 -- a target is a cpuid
 pub target-below : (extents : Extents) (plant : Plant) (n i c : ℕ) → Sound extents plant n → i < plant .sources → sourceAt plant i .target ≡ Target.Cpu c → c < plant .cpus
@@ -52,7 +51,7 @@ pub entry-made : (w : ℕ) (bytes entry : List ℕ) → bytes ≡ wordBytes w �
 unfolding entryOf wordBytes
 entry-made w bytes entry p q = q ∙ rw p
 
--- a state that is set, and its source after
+-- what is told of a source that stays delivered, and of one that is received
 module _ (extents : Extents) (plant : Plant) (m : List ℕ) (i : ℕ) where
   pub raise-stays : (d : Done) → d ≡ doneBy (One 2) Change.Nothing → sourceAt plant i .state ≡ 2 → Follows extents plant (raiseAt plant i) m d m
   unfolding raiseAt
@@ -70,52 +69,49 @@ module _ (extents : Extents) (plant : Plant) (m : List ℕ) (i : ℕ) where
     unfolding raiseAt
     raise-disabled d h g = received d (rw (ne-eqb (sourceAt plant i .state) 2 n, ne-eqb (sourceAt plant i .enabled) 1 h)) g
 
-    module _ (o : sourceAt plant i .enabled ≡ 1) where
-      pub raise-nowhere : (d : Done) → sourceAt plant i .target ≡ Target.Unset → d ≡ becoming plant i 1 → Follows extents plant (raiseAt plant i) m d m
-      unfolding raiseAt
-      raise-nowhere d t g = received d (rw (ne-eqb (sourceAt plant i .state) 2 n, eq-eqb (sourceAt plant i .enabled) 1 o) (ap (λ (y : Target). granted (deliver plant i y)) t)) g
+    pub raise-nowhere : (d : Done) → sourceAt plant i .enabled ≡ 1 → sourceAt plant i .target ≡ Target.Unset → d ≡ becoming plant i 1 → Follows extents plant (raiseAt plant i) m d m
+    unfolding raiseAt
+    raise-nowhere d o t g = received d (rw (ne-eqb (sourceAt plant i .state) 2 n, eq-eqb (sourceAt plant i .enabled) 1 o, t)) g
 
-      pub raise-delivers : (c : ℕ) (d : Done) (m′ : List ℕ) → sourceAt plant i .target ≡ Target.Cpu c → Follows extents plant (delivering plant i c) m d m′ → Follows extents plant (raiseAt plant i) m d m′
-      unfolding raiseAt delivering
-      raise-delivers c d m′ t f = rw (ne-eqb (sourceAt plant i .state) 2 n, eq-eqb (sourceAt plant i .enabled) 1 o, t) f
+pub raise-delivers : (plant : Plant) (i c : ℕ) → (sourceAt plant i .state ≡ 2 → ⊥) → sourceAt plant i .enabled ≡ 1 → sourceAt plant i .target ≡ Target.Cpu c → Delivers (sourceAt plant i) c
+raise-delivers plant i c n o t = record { waits = n; enabled = o; target = t }
 
--- an entry to a cpu
-module _ (extents : Extents) (plant : Plant) (m : List ℕ) (i c w : ℕ) (entry : List ℕ) (a : w ≡ deviceWord plant i) (b : entry ≡ entryOf w) (r : Put) (m′ : List ℕ)
-    (p : PutsIn extents (putIn (queueAt (cpuAt plant c) 1) entry) m r m′) where
-  f : Puts extents (putOne plant c 1 entry) m (record { plant = withQueue plant c 1 (r .held); all = r .room }) m′
-  f = puts-plant plant c 1 entry extents m r m′ p
+-- where there is no room, nothing is written
+unwritten : (held : QueueRecord) (entry : List ℕ) → putIn held entry .room ≡ false → putIn held entry .writes ≡ []
+unfolding putIn
+unwritten QueueRecord.Unset entry h = refl
+unwritten (QueueRecord.Set ring) entry h = go (hasRoom ring) refl h
+  where
+    go : (b : Bool) → hasRoom ring ≡ b → putIn (QueueRecord.Set ring) entry .room ≡ false → putIn (QueueRecord.Set ring) entry .writes ≡ []
+    go true e h = absurd (true≢false (rw e at h))
+    go false e h = rw e
 
-  -- what was put, as the rule tells it
-  abbrev telling : Sent → Outcome
-  telling s =
-      if s .all
-      then record { answer = One 2; plant = withSource (s .plant) i (withState (sourceAt (s .plant) i) 2); writes = s .writes }
-      else record { answer = One 1; plant = withSource plant i (withState (sourceAt plant i) 1); writes = s .writes }
+-- an entry to the target
+module _ (extents : Extents) (plant : Plant) (m : List ℕ) (i c w : ℕ) (entry : List ℕ) (a : w ≡ deviceWord plant i) (b : entry ≡ entryOf w) (r : Told) (m′ : List ℕ)
+    (p : PutsIn extents (putIn (queueAt (cpuAt plant c) 1) entry) m r m′) (s : Delivers (sourceAt plant i) c) where
+  abbrev telling : Put → Ruling Outcome
+  telling t =
+      if t .room
+      then granted (record { answer = One 2; plant = withSource (t .plant) i (withState (sourceAt plant i) 2); writes = t .writes })
+      else says (One 1) (withSource plant i (withState (sourceAt plant i) 1))
 
   entry-is : deviceEntry plant i ≡ entry
   unfolding deviceEntry deviceWord entryOf
   entry-is = rw (b, a)
 
-  told : delivering plant i c ≡ granted (telling (putOne plant c 1 entry))
-  unfolding delivering putOne withQueue
-  told = rw (← entry-is) (ap granted (go (queueAt (cpuAt plant c) 1)))
-    where
-      by : (ring : Ring) (x : Bool) → hasRoom ring ≡ x → deliverTo plant i c (QueueRecord.Set ring) ≡ telling (putTo plant c 1 (deviceEntry plant i) (QueueRecord.Set ring))
-      by ring true e = rw e
-      by ring false e = rw e
+  told : raiseAt plant i ≡ telling (put plant c 0x3d entry)
+  unfolding raiseAt
+  told = rw (ne-eqb (sourceAt plant i .state) 2 (s .waits), eq-eqb (sourceAt plant i .enabled) 1 (s .enabled), s .target, entry-is)
 
-      go : (held : QueueRecord) → deliverTo plant i c held ≡ telling (putTo plant c 1 (deviceEntry plant i) held)
-      go QueueRecord.Unset = refl
-      go (QueueRecord.Set ring) = by ring (hasRoom ring) refl
-
-  pub deliver-full : (d : Done) → i < sourceLimit → not (r .room) ≡ true → d ≡ becoming plant i 1 → Follows extents plant (delivering plant i c) m d m′
-  unfolding becoming doneBy plantAfter
+  pub deliver-full : (d : Done) → i < sourceLimit → not (r .room) ≡ true → d ≡ becoming plant i 1 → Follows extents plant (raiseAt plant i) m d m′
+  unfolding becoming doneBy plantAfter put
   deliver-full d h n e =
-      rw (told, ← f .all, not-true (r .room) n, e)
-      (record { answer = refl; plant = source-after plant _ _ i _ h; memory = f .memory })
+      let full : putIn (queueAt (cpuAt plant c) 1) entry .room ≡ false = sym (p .room) ∙ not-true (r .room) n in
+      rw (told, full, e)
+      (record { answer = refl; plant = source-after plant _ _ i _ h; memory = p .memory ∙ ap (apply (present extents) m) (unwritten (queueAt (cpuAt plant c) 1) entry full) })
 
-  pub deliver-done : (d : Done) → i < sourceLimit → c < cpuLimit → not (r .room) ≡ false → d ≡ doneBy (One 2) (Change.Delivered i (withState (sourceAt plant i) 2) c (r .held)) → Follows extents plant (delivering plant i c) m d m′
-  unfolding doneBy plantAfter withQueue
+  pub deliver-done : (d : Done) → i < sourceLimit → c < cpuLimit → not (r .room) ≡ false → d ≡ doneBy (One 2) (Change.Delivered i (withState (sourceAt plant i) 2) c (r .held)) → Follows extents plant (raiseAt plant i) m d m′
+  unfolding doneBy plantAfter put
   deliver-done d h k n e =
-      rw (told, ← f .all, not-false (r .room) n, e, ← f .plant)
-      (record { answer = refl; plant = delivered-after plant _ _ c k i _ _ h; memory = f .memory })
+      rw (told, ← p .room, not-false (r .room) n, e, ← p .held)
+      (record { answer = refl; plant = delivered-after plant _ _ c k i _ _ h; memory = p .memory })

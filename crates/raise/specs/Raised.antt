@@ -1,14 +1,16 @@
 -- The steps of a raise that are functions of their own in the code.
+use mathlib.Core.Path.{_≡_}
 use mathlib.Core.List.{List, _++_}
 use Prim.Native.Nat.{ℕ}
 use lib.Dec.{eqb}
 use lib.ListN.{replicate}
 use Rattle.rules.specs.declared.Answer.the-variants.{One}
 use Rattle.rules.specs.declared.Plant.{Plant}
-use Rattle.rules.specs.Kept.{cpuAt, queueAt, sourceAt, withState}
+use Rattle.rules.specs.declared.Source.{Source}
+use Rattle.rules.specs.declared.Target.{Target}
+use Rattle.rules.specs.Kept.{sourceAt, withState}
 use Rattle.rules.specs.Real.{wordBytes}
-use Rattle.rules.specs.Rulings.{Ruling, granted, Outcome, if_then_else_}
-use Rattle.rules.specs.Sources.{devMondo, deliverTo}
+use Rattle.rules.specs.Rulings.{if_then_else_}
 use Rattle.plants.specs.declared.change.Change.{Change}
 use Rattle.plants.specs.declared.change.Done.{Done}
 use Rattle.plants.specs.Changes.{doneBy}
@@ -25,6 +27,8 @@ entryOf word = wordBytes word ++ replicate 56 0
 unfoldable pub becoming : Plant → ℕ → ℕ → Done
 becoming plant i state = doneBy (One state) (Change.Source i (withState (sourceAt plant i) state))
 
--- the entry of source i to the 0x3d ring of a cpu
-unfoldable pub delivering : Plant → ℕ → ℕ → Ruling Outcome
-delivering plant i cpu = granted (deliverTo plant i cpu (queueAt (cpuAt plant cpu) devMondo))
+-- a source that delivers to a cpu, if the cpu's ring has room
+pub record Delivers (s : Source) (cpu : ℕ) : Type 0 where
+  pub waits : s .state ≡ 2 → ⊥
+  pub enabled : s .enabled ≡ 1
+  pub target : s .target ≡ Target.Cpu cpu

@@ -12,10 +12,11 @@ ghost use mathlib.Core.Path.{_≡_};
 ghost use Prim.Native.Nat.{_<_};
 ghost use lib.ListN.{length};
 ghost use Rattle.rules.specs.Limits.{sourceLimit};
+ghost use Rattle.rules.specs.Kept.{sourceAt};
 ghost use Rattle.rules.specs.Sources.{raiseAt};
 ghost use Rattle.records.specs.Sound.{Sound};
 ghost use Rattle.plants.specs.Follows.{Follows};
-ghost use Rattle.raise.specs.Raised.{deviceWord, entryOf, becoming, delivering};
+ghost use Rattle.raise.specs.Raised.{deviceWord, entryOf, becoming, Delivers};
 
 // Word 0 of a source's entry: its cookie, or under 1.0 its sysino.
 fn device_word(plant: Plant, i: usize) -> u64
@@ -49,11 +50,13 @@ fn becomes(plant: Plant, i: usize, state: u8) -> Done
     done_by(Answer::One(state as u64), Change::Source(i, source))
 }
 
-// An entry for source i at the tail of a cpu's 0x3d ring, if it has room.
+// The end of a raise of source i, which is not delivered, and enabled, with that target: an entry at the tail of the target's
+// 0x3d ring, if it has room.
 fn deliver(extents: Extents, plant: Plant, mem: &mut [u8], i: usize, cpu: usize) -> Done
     requires { ⌜ Sound extents plant (length (now mem)) ⌝ }
     requires { ⌜ (i < sourceLimit) × (cpu < plant .cpus) ⌝ }
-    ensures { λ r. ⌜ Follows extents plant (delivering plant i cpu) (now (mem .entry)) r (now (mem .exit)) ⌝ }
+    requires { ⌜ Delivers (sourceAt plant i) cpu ⌝ }
+    ensures { λ r. ⌜ Follows extents plant (raiseAt plant i) (now (mem .entry)) r (now (mem .exit)) ⌝ }
 {
     let entry = entry_of(device_word(plant, i));
     let c = plant.cpu[cpu];

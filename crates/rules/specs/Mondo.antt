@@ -1,14 +1,13 @@
 -- "Queues and mondos": 0x42, a mondo to each cpu of a list (000, section 7.2.8).
-use mathlib.Core.Bool.{Bool, true, false, _&&_, not}
+use mathlib.Core.Bool.{Bool, true, _&&_, not}
 use mathlib.Core.List.{List, [], _∷_, _++_}
 use Prim.Native.Nat.{ℕ, zero, suc, _+_, _*_, _%_}
 use lib.Dec.{leb, ltb, eqb}
-use Rattle.rules.specs.Types.{QueueRecord, Plant, Done, Refused, EINVAL, EBADALIGN, ENORADDR, ENOCPU, EWOULDBLOCK}
+use Rattle.rules.specs.Types.{Plant, Done, Refused, EINVAL, EBADALIGN, ENORADDR, ENOCPU, EWOULDBLOCK}
 use Rattle.rules.specs.Scan.{someBelow, allBelow}
-use Rattle.rules.specs.Kept.{cpuAt, queueAt, withQueue, withTail}
 use Rattle.rules.specs.Real.{Sight, Write, numberOf, bytesFrom}
 use Rattle.rules.specs.Rulings.{Ruling, granted, Outcome, _or-refuse_then_, if_then_else_}
-use Rattle.rules.specs.Queues.{nextTail, hasRoom}
+use Rattle.rules.specs.Queues.{Put, put}
 
 -- entry i of a list of cpus, and its first k entries: 2 bytes each
 abbrev pub entryAt : (ℕ → ℕ) → ℕ → ℕ → ℕ
@@ -24,25 +23,15 @@ pub record Sent : Type 0 where
   pub all : Bool
   pub writes : List Write
 
--- the 0x3c ring of a cpu
-abbrev pub cpuMondo : ℕ
-cpuMondo = 0
+-- "and the list entry becomes 0xffff": the list entry stands at `at`
+abbrev pub marked : ℕ → Bool → List Write
+marked at sent = if sent then record { at = at; bytes = 0xff ∷ 0xff ∷ [] } ∷ [] else []
 
--- "if that cpu's 0x3c ring exists and has room, the data is written at its tail, tail moves on, and the list entry
--- becomes 0xffff": the entry stands at `mark`
-abbrev pub sendTo : Plant → ℕ → List ℕ → ℕ → QueueRecord → Sent
-sendTo plant cpu packet mark QueueRecord.Unset = record { plant = plant; all = false; writes = [] }
-sendTo plant cpu packet mark (QueueRecord.Set ring) =
-    if hasRoom ring
-    then record {
-      plant = withQueue plant cpu cpuMondo (QueueRecord.Set (withTail ring (nextTail ring)));
-      all = true;
-      writes = record { at = ring .base + ring .tail; bytes = packet } ∷ record { at = mark; bytes = 0xff ∷ 0xff ∷ [] } ∷ [];
-    }
-    else record { plant = plant; all = false; writes = [] }
-
+-- "if that cpu's 0x3c ring exists and has room, the data is written at its tail, tail moves on, and the list entry becomes 0xffff"
 unfoldable pub sendOne : Plant → ℕ → List ℕ → ℕ → Sent
-sendOne plant cpu packet mark = sendTo plant cpu packet mark (queueAt (cpuAt plant cpu) cpuMondo)
+sendOne plant cpu packet mark =
+    let one : Put = put plant cpu 0x3c packet in
+    record { plant = one .plant; all = one .room; writes = one .writes ++ marked mark (one .room) }
 
 -- "Then in list order": each ring's room is judged as it is when its turn comes
 unfoldable pub sendAll : Plant → List ℕ → List ℕ → ℕ → Sent

@@ -1,9 +1,11 @@
--- "Queues and mondos": 0x14, 0x15, 0x16 and the head write (000, sections 7.2.6, 7.2.7 and 7.2.9).
-use mathlib.Core.Bool.{Bool, false, _&&_, _||_, not}
+-- "Queues and mondos": 0x14, 0x15, 0x16, an entry put into a ring, and the head write (000, sections 7.2.6, 7.2.7 and 7.2.9).
+use mathlib.Core.Bool.{Bool, true, false, _&&_, _||_, not}
+use mathlib.Core.List.{List, [], _∷_}
 use Prim.Native.Nat.{ℕ, zero, suc, _+_, _-_, _*_, _/_, _%_}
 use lib.Dec.{leb, ltb, eqb}
 use Rattle.rules.specs.Types.{Ring, QueueRecord, Plant, Answer, One, Two, EINVAL, EBADALIGN, ENORADDR}
-use Rattle.rules.specs.Kept.{cpuAt, queueAt, withQueue, withHead}
+use Rattle.rules.specs.Kept.{cpuAt, queueAt, withQueue, withHead, withTail}
+use Rattle.rules.specs.Real.{Write}
 use Rattle.rules.specs.Rulings.{Ruling, refused, granted, Outcome, _or-refuse_then_, _grants_, if_then_else_, says, done}
 
 -- "queue not 0x3c to 0x3f": the cpu's four records, in that order
@@ -33,6 +35,35 @@ nextTail ring = (ring .tail + 64) % ring .size
 
 unfoldable pub hasRoom : Ring → Bool
 hasRoom ring = not (eqb (nextTail ring) (ring .head))
+
+-- what putting an entry into a queue comes to: whether it has a ring with room, its record after, and the write
+pub record PutIn : Type 0 where
+  pub room : Bool
+  pub held : QueueRecord
+  pub writes : List Write
+
+-- an entry of 64 bytes "is written at its tail, which moves on", if the ring "exists and has room"
+unfoldable pub putIn : QueueRecord → List ℕ → PutIn
+putIn QueueRecord.Unset entry = record { room = false; held = QueueRecord.Unset; writes = [] }
+putIn (QueueRecord.Set ring) entry =
+    if hasRoom ring
+    then record {
+      room = true;
+      held = QueueRecord.Set (withTail ring (nextTail ring));
+      writes = record { at = ring .base + ring .tail; bytes = entry } ∷ [];
+    }
+    else record { room = false; held = QueueRecord.Set ring; writes = [] }
+
+-- the same of a queue of a cpu, with the plant's record after. Every entry, of a mondo or of a raise, is put by this definition.
+pub record Put : Type 0 where
+  pub room : Bool
+  pub plant : Plant
+  pub writes : List Write
+
+unfoldable pub put : Plant → ℕ → ℕ → List ℕ → Put
+put plant cpu queue entry =
+    let p : PutIn = putIn (queueAt (cpuAt plant cpu) (indexOf queue)) entry in
+    record { room = p .room; plant = withQueue plant cpu (indexOf queue) (p .held); writes = p .writes }
 
 -- how far a place of the ring lies forward from its head
 abbrev pub forward : Ring → ℕ → ℕ

@@ -1,16 +1,16 @@
 -- "Interrupt sources": 0xa0 to 0xae (000, section 10; 002, section 3) and raise.
-use mathlib.Core.Bool.{_&&_, _||_, not}
-use mathlib.Core.List.{List, [], _∷_, _++_}
-use Prim.Native.Nat.{ℕ, _+_}
+use mathlib.Core.Bool.{Bool, true, false, _&&_, _||_, not}
+use mathlib.Core.List.{List, _++_}
+use Prim.Native.Nat.{ℕ}
 use lib.Dec.{leb, ltb, eqb}
 use lib.ListN.{replicate}
-use Rattle.rules.specs.Types.{Found, Ring, QueueRecord, Target, Plant, One, Refusal, EINVAL, ENOCPU, ENOTSUPPORTED, EBADTRAP, NoSource}
+use Rattle.rules.specs.Types.{Found, Target, Source, Plant, One, Refusal, EINVAL, ENOCPU, ENOTSUPPORTED, EBADTRAP, NoSource}
 use Rattle.rules.specs.Scan.{firstBelow}
-use Rattle.rules.specs.Kept.{cpuAt, queueAt, sourceAt, withQueue, withTail, withSource, withEnabled, withState, withTarget, withCookie}
+use Rattle.rules.specs.Kept.{sourceAt, withSource, withEnabled, withState, withTarget, withCookie}
 use Rattle.rules.specs.Real.{wordBytes}
 use Rattle.rules.specs.Image.{named}
 use Rattle.rules.specs.Rulings.{Ruling, refused, granted, Outcome, _or-refuse_then_, _grants_, if_then_else_, says, done}
-use Rattle.rules.specs.Queues.{nextTail, hasRoom}
+use Rattle.rules.specs.Queues.{Put, put}
 
 -- "Sysino is the position in the guest's own list."
 unfoldable pub sysinoOf : Plant → ℕ → ℕ → Found
@@ -25,6 +25,10 @@ found r (Found.At i) = granted i
 abbrev pub targetNumber : Target → ℕ
 targetNumber Target.Unset = 0
 targetNumber (Target.Cpu c) = c
+
+abbrev pub targetSet : Target → Bool
+targetSet Target.Unset = false
+targetSet (Target.Cpu c) = true
 
 module _ (plant : Plant) (i : ℕ) where
   -- "get and set enabled (0 or 1)"; "Under 2.0, enabling with cookie 0 EINVAL."
@@ -108,41 +112,20 @@ vintr plant function devhandle devino value =
     sourceAt plant i .cookies or-refuse ENOTSUPPORTED then
     byName plant function i value
 
--- the 0x3d ring of a cpu
-abbrev pub devMondo : ℕ
-devMondo = 1
-
--- "an entry is written at its tail (word 0 cookie, or under 1.0 sysino; seven zero words)"
+-- "word 0 cookie, or under 1.0 sysino; seven zero words"
 unfoldable pub deviceEntry : Plant → ℕ → List ℕ
 deviceEntry plant i = wordBytes (if eqb (plant .versions .interrupt) 2 then sourceAt plant i .cookie else i) ++ replicate 56 0
 
--- "the state becomes received"
-abbrev pub received : Plant → ℕ → Outcome
-received plant i = record { answer = One 1; plant = withSource plant i (withState (sourceAt plant i) 1); writes = [] }
-
--- "an entry is written at its tail, which moves on, and the state is delivered": the ring is the target's
-abbrev pub delivered : Plant → ℕ → ℕ → Ring → Outcome
-delivered plant i c ring = record {
-  answer = One 2;
-  plant = withSource (withQueue plant c devMondo (QueueRecord.Set (withTail ring (nextTail ring)))) i (withState (sourceAt plant i) 2);
-  writes = record { at = ring .base + ring .tail; bytes = deviceEntry plant i } ∷ [];
-}
-
--- "if enabled, target set and its 0x3d ring has room"
-abbrev pub deliverTo : Plant → ℕ → ℕ → QueueRecord → Outcome
-deliverTo plant i c QueueRecord.Unset = received plant i
-deliverTo plant i c (QueueRecord.Set ring) = if hasRoom ring then delivered plant i c ring else received plant i
-
-abbrev pub deliver : Plant → ℕ → Target → Outcome
-deliver plant i Target.Unset = received plant i
-deliver plant i (Target.Cpu c) = deliverTo plant i c (queueAt (cpuAt plant c) devMondo)
-
--- raise: "delivered stays. Else the state becomes received". "Value 1 is the state after."
+-- raise: "delivered stays. Else the state becomes received; if enabled, target set and its 0x3d ring has room, an entry is
+-- written at its tail, which moves on, .. and the state is delivered. Value 1 is the state after."
 unfoldable pub raiseAt : Plant → ℕ → Ruling Outcome
 raiseAt plant i =
-    if eqb (sourceAt plant i .state) 2 then says (One 2) plant else
-    if eqb (sourceAt plant i .enabled) 1 then granted (deliver plant i (sourceAt plant i .target)) else
-    granted (received plant i)
+    let source : Source = sourceAt plant i in
+    let entry : Put = put plant (targetNumber (source .target)) 0x3d (deviceEntry plant i) in
+    if eqb (source .state) 2 then says (One 2) plant else
+    if eqb (source .enabled) 1 && (targetSet (source .target) && entry .room)
+    then granted (record { answer = One 2; plant = withSource (entry .plant) i (withState source 2); writes = entry .writes })
+    else says (One 1) (withSource plant i (withState source 1))
 
 -- (devhandle, devino): "no such source 104"
 unfoldable pub raise : Plant → ℕ → ℕ → Ruling Outcome

@@ -23,7 +23,7 @@ element-copy-out-queue c = search needs
 put-entry-requires : tie.Need-put-entry-requires
 put-entry-requires c κs =
     let s = c .before .before .before .before .before .before .before in
-    (s .pre .0 .few, (s .pre .0 .ready, s .pre .0 .rings _ 1 (s .pre .1 .1) (omega arith)))
+    (s .pre .0 .few, (s .pre .0 .ready, s .pre .0 .rings _ 1 (s .pre .1 .0 .1) (omega arith)))
 
 becomes-requires : tie.Need-becomes-requires
 becomes-requires c κs = search needs

@@ -39,7 +39,7 @@ deliver-requires : tie.Need-deliver-requires
 deliver-requires c κs =
     let t = c .before .before in
     let s = t .before .before .before .before .before .before .before .before in
-    (s .pre .0, (omega (arith, s .pre .0 .sources, s .pre .1), target-below _ _ _ _ _ (s .pre .0) (s .pre .1) (t .target .given .1)))
+    (s .pre .0, ((omega (arith, s .pre .0 .sources, s .pre .1), target-below _ _ _ _ _ (s .pre .0) (s .pre .1) (t .target .given .1)), search raise-delivers))
 
 returns-3 : tie.Need-returns-3
 returns-3 c = search raise-nowhere
@@ -48,7 +48,7 @@ same-length : tie.Need-same-length
 same-length c = search needs
 
 returns-4 : tie.Need-returns-4
-returns-4 c = search raise-delivers
+returns-4 c = search needs
 
 pub raise-at-spec : {M : Type 1} → statement M
 raise-at-spec =
