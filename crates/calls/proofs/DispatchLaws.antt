@@ -5,8 +5,6 @@ use mathlib.Core.List.{List}
 use Prim.Native.Nat.{ℕ}
 use native.Mathlib.Omega.{arith}
 use lib.Dec.{leb, eqb}
-use borrow.Author.Tests.{eq-eqb, ne-eqb}
-use Rattle.rules.specs.declared.Answer.{Answer}
 use Rattle.rules.specs.declared.Answer.the-variants.{Refused}
 use Rattle.rules.specs.declared.Call.{Call}
 use Rattle.rules.specs.declared.Extents.{Extents}
@@ -16,9 +14,8 @@ use Rattle.rules.specs.declared.Refusal.{Refusal}
 use Rattle.rules.specs.declared.Refusal.the-variants.{EBADTRAP, ENOTSUPPORTED}
 use Rattle.rules.specs.declared.Versions.{Versions}
 use Rattle.rules.specs.Real.{Sight}
-use Rattle.rules.specs.Rulings.{refused, granted, outcomeOf, _or-refuse_then_}
-use Rattle.rules.specs.Sources.{intr-devino2sysino, intr}
-use Rattle.rules.specs.Calls.{functionOf, negotiatedAs, admitted, perform, call}
+use Rattle.rules.specs.Rulings.{refused, granted, _or-refuse_then_}
+use Rattle.rules.specs.Calls.{functionOf, negotiatedAs, negotiatedAsOne, admitted, perform, call}
 use Rattle.records.specs.declared.Verdict.{Verdict}
 use Rattle.records.specs.declared.Verdict.the-variants.{Right, Refused as Told}
 use Rattle.records.specs.Verdict.{verdictOf}
@@ -26,10 +23,8 @@ use Rattle.records.proofs.Told.{told-refused, told-then}
 use Rattle.plants.specs.declared.change.Change.{Change}
 use Rattle.plants.specs.declared.change.Done.{Done}
 use Rattle.plants.specs.Changes.{doneBy}
-use Rattle.plants.specs.Done.{quietly, saying}
 use Rattle.plants.specs.Follows.{Follows}
-use Rattle.plants.proofs.OutcomeLaws.{tells, quiet-told}
-use Rattle.calls.specs.Dispatch.{sysinoRule}
+use Rattle.plants.proofs.OutcomeLaws.{quiet-told}
 
 -- a refusal is not right
 never-right : (r : Refusal) → verdictOf {A = Function} (refused r) ≡ Right → ⊥
@@ -39,6 +34,12 @@ never-right r e = let z : _≡_ {A = ℕ} 0 1 = cc in omega arith
 -- a function that is admitted is granted as it is
 admitted-group : (major : ℕ) (f : Function) → verdictOf (negotiatedAs major f) ≡ Right → negotiatedAs major f ≡ granted f
 admitted-group major f e = rw (told-then (leb 1 major) EBADTRAP (granted f) e)
+
+admitted-one : (major : ℕ) (f : Function) → verdictOf (negotiatedAsOne major f) ≡ Right → negotiatedAsOne major f ≡ granted f
+admitted-one major f e =
+    let a : leb 1 major ≡ true = told-then (leb 1 major) EBADTRAP (eqb major 1 or-refuse ENOTSUPPORTED then granted f) e in
+    let b : eqb major 1 ≡ true = told-then (eqb major 1) ENOTSUPPORTED (granted f) (rw a at e) in
+    rw (a, b)
 
 pub admitted-itself : (v : Versions) (f : Function) → verdictOf (admitted v f) ≡ Right → admitted v f ≡ granted f
 unfolding admitted
@@ -55,11 +56,9 @@ admitted-itself v Function.MemScrub e = admitted-group (v .core) Function.MemScr
 admitted-itself v Function.MemSync e = admitted-group (v .core) Function.MemSync e
 admitted-itself v Function.MmustatConf e = admitted-group (v .statistics) Function.MmustatConf e
 admitted-itself v Function.MmustatInfo e = admitted-group (v .statistics) Function.MmustatInfo e
-admitted-itself v (Function.Sysino n) e =
-    let a : leb 1 (v .interrupt) ≡ true = told-then (leb 1 (v .interrupt)) EBADTRAP (eqb (v .interrupt) 1 or-refuse ENOTSUPPORTED then granted (Function.Sysino n)) e in
-    let b : eqb (v .interrupt) 1 ≡ true = told-then (eqb (v .interrupt) 1) ENOTSUPPORTED (granted (Function.Sysino n)) (rw a at e) in
-    rw (a, b)
-admitted-itself v (Function.Cookie n) e = rw (told-then (eqb (v .interrupt) 2) EBADTRAP (granted (Function.Cookie n)) e)
+admitted-itself v Function.IntrDevino2sysino e = admitted-one (v .interrupt) Function.IntrDevino2sysino e
+admitted-itself v (Function.Sysino call) e = admitted-one (v .interrupt) (Function.Sysino call) e
+admitted-itself v (Function.Cookie call) e = rw (told-then (eqb (v .interrupt) 2) EBADTRAP (granted (Function.Cookie call)) e)
 
 -- the function that the code's match told
 pub perform-as : (extents : Extents) (plant : Plant) (s : Sight) (c : Call) (m after : List ℕ) (d : Done) (f g : Function) → f ≡ g → Follows extents plant (perform s plant c g) m d after → Follows extents plant (perform s plant c f) m d after
@@ -74,13 +73,3 @@ module _ (extents : Extents) (plant : Plant) (s : Sight) (c : Call) (m : List �
   pub call-performed : (after : List ℕ) → v ≡ Right → Follows extents plant (perform s plant c f) m d after → Follows extents plant (call s plant c) m d after
   unfolding call
   call-performed after e g = rw (← p, admitted-itself (plant .versions) f (sym q ∙ e)) g
-
--- 0xa0 and the functions behind it
-module _ (plant : Plant) (c : Call) (n : ℕ) (d : Done) where
-  pub sysino-first : (a : Answer) → n ≡ 0xa0 → saying plant a ≡ outcomeOf plant (intr-devino2sysino plant (c .arg0) (c .arg1)) → d ≡ doneBy a Change.Nothing → quietly plant d ≡ outcomeOf plant (sysinoRule plant c n)
-  unfolding sysinoRule
-  sysino-first a e p q = tells plant (sysinoRule plant c n) d a q (rw (eq-eqb n 0xa0 e) p)
-
-  pub sysino-later : (n ≡ 0xa0 → ⊥) → quietly plant d ≡ outcomeOf plant (intr plant n (c .arg0) (c .arg1)) → quietly plant d ≡ outcomeOf plant (sysinoRule plant c n)
-  unfolding sysinoRule
-  sysino-later h p = rw (ne-eqb n 0xa0 h) p

@@ -2,7 +2,9 @@
 use mathlib.Core.Path.{_≡_, sym, ap, _∙_}
 use Prim.Native.Nat.{ℕ, _≤_, _<_}
 use native.Mathlib.Omega.{arith}
-use borrow.Author.Tests.{eq-eqb, ne-eqb, le-leb, lt-leb}
+use mathlib.Core.Bool.{false}
+use lib.Dec.{eqb}
+use borrow.Author.Tests.{eq-eqb, ne-eqb}
 use Rattle.rules.specs.declared.Function.{Function}
 use Rattle.rules.specs.Calls.{versionFunction, fastFunction, functionOf}
 
@@ -14,23 +16,17 @@ arm of f k r e p = p ∙ ap of (sym e)
 abbrev pub Other : ℕ → Type 0
 Other f = (((((((((Unit {0} × (f ≡ 0x14 → ⊥)) × (f ≡ 0x15 → ⊥)) × (f ≡ 0x16 → ⊥)) × (f ≡ 0x20 → ⊥)) × (f ≡ 0x21 → ⊥)) × (f ≡ 0x31 → ⊥)) × (f ≡ 0x32 → ⊥)) × (f ≡ 0x42 → ⊥)) × (f ≡ 0x102 → ⊥)) × (f ≡ 0x103 → ⊥)
 
-pub fast-sysino : (f : ℕ) → 0xa0 ≤ f → f < 0xa7 → Function.Sysino f ≡ fastFunction f
-unfolding fastFunction
-fast-sysino f l h = rw (ne-eqb f 0x14 (λ e. omega arith), ne-eqb f 0x15 (λ e. omega arith), ne-eqb f 0x16 (λ e. omega arith), ne-eqb f 0x20 (λ e. omega arith), ne-eqb f 0x21 (λ e. omega arith), ne-eqb f 0x31 (λ e. omega arith), ne-eqb f 0x32 (λ e. omega arith), ne-eqb f 0x42 (λ e. omega arith), le-leb 0xa0 f l, le-leb f 0xa6 (omega arith))
-
-pub fast-cookie : (f : ℕ) → 0xa7 ≤ f → f < 0xaf → Function.Cookie f ≡ fastFunction f
-unfolding fastFunction
-fast-cookie f l h =
-    rw (ne-eqb f 0x14 (λ e. omega arith), ne-eqb f 0x15 (λ e. omega arith), ne-eqb f 0x16 (λ e. omega arith), ne-eqb f 0x20 (λ e. omega arith), ne-eqb f 0x21 (λ e. omega arith), ne-eqb f 0x31 (λ e. omega arith), ne-eqb f 0x32 (λ e. omega arith), ne-eqb f 0x42 (λ e. omega arith), le-leb 0xa0 f (omega arith), lt-leb f 0xa6 (omega arith), le-leb 0xa7 f l, le-leb f 0xae (omega arith))
+-- a number of no arm and no range
+module _ (f : ℕ) (r : Other f) (outside : (k : ℕ) → 0xa0 ≤ k → k < 0xaf → eqb f k ≡ false) where
+  fast-other : Function.Unknown ≡ fastFunction f
+  unfolding fastFunction
+  fast-other = rw (ne-eqb f 0x14 (r .0 .0 .0 .0 .0 .0 .0 .0 .0 .1), ne-eqb f 0x15 (r .0 .0 .0 .0 .0 .0 .0 .0 .1), ne-eqb f 0x16 (r .0 .0 .0 .0 .0 .0 .0 .1), ne-eqb f 0x20 (r .0 .0 .0 .0 .0 .0 .1), ne-eqb f 0x21 (r .0 .0 .0 .0 .0 .1), ne-eqb f 0x31 (r .0 .0 .0 .0 .1), ne-eqb f 0x32 (r .0 .0 .0 .1), ne-eqb f 0x42 (r .0 .0 .1), outside 0xa0 (omega arith) (omega arith), outside 0xa1 (omega arith) (omega arith), outside 0xa2 (omega arith) (omega arith), outside 0xa3 (omega arith) (omega arith), outside 0xa4 (omega arith) (omega arith), outside 0xa5 (omega arith) (omega arith), outside 0xa6 (omega arith) (omega arith), outside 0xa7 (omega arith) (omega arith), outside 0xa8 (omega arith) (omega arith), outside 0xa9 (omega arith) (omega arith), outside 0xaa (omega arith) (omega arith), outside 0xab (omega arith) (omega arith), outside 0xac (omega arith) (omega arith), outside 0xad (omega arith) (omega arith), outside 0xae (omega arith) (omega arith), ne-eqb f 0x102 (r .0 .1), ne-eqb f 0x103 (r .1))
 
 pub fast-below : (f : ℕ) → Other f → f < 0xa0 → Function.Unknown ≡ fastFunction f
-unfolding fastFunction
-fast-below f r h = rw (ne-eqb f 0x14 (r .0 .0 .0 .0 .0 .0 .0 .0 .0 .1), ne-eqb f 0x15 (r .0 .0 .0 .0 .0 .0 .0 .0 .1), ne-eqb f 0x16 (r .0 .0 .0 .0 .0 .0 .0 .1), ne-eqb f 0x20 (r .0 .0 .0 .0 .0 .0 .1), ne-eqb f 0x21 (r .0 .0 .0 .0 .0 .1), ne-eqb f 0x31 (r .0 .0 .0 .0 .1), ne-eqb f 0x32 (r .0 .0 .0 .1), ne-eqb f 0x42 (r .0 .0 .1), lt-leb 0xa0 f h, lt-leb 0xa7 f (omega arith), ne-eqb f 0x102 (r .0 .1), ne-eqb f 0x103 (r .1))
+fast-below f r h = fast-other f r (λ k l u. ne-eqb f k (λ e. omega (arith, e, l)))
 
 pub fast-above : (f : ℕ) → Other f → 0xaf ≤ f → Function.Unknown ≡ fastFunction f
-unfolding fastFunction
-fast-above f r h =
-    rw (ne-eqb f 0x14 (r .0 .0 .0 .0 .0 .0 .0 .0 .0 .1), ne-eqb f 0x15 (r .0 .0 .0 .0 .0 .0 .0 .0 .1), ne-eqb f 0x16 (r .0 .0 .0 .0 .0 .0 .0 .1), ne-eqb f 0x20 (r .0 .0 .0 .0 .0 .0 .1), ne-eqb f 0x21 (r .0 .0 .0 .0 .0 .1), ne-eqb f 0x31 (r .0 .0 .0 .0 .1), ne-eqb f 0x32 (r .0 .0 .0 .1), ne-eqb f 0x42 (r .0 .0 .1), le-leb 0xa0 f (omega arith), lt-leb f 0xa6 (omega arith), le-leb 0xa7 f (omega arith), lt-leb f 0xae h, ne-eqb f 0x102 (r .0 .1), ne-eqb f 0x103 (r .1))
+fast-above f r h = fast-other f r (λ k l u. ne-eqb f k (λ e. omega (arith, e, u)))
 
 pub version-other : (f : ℕ) → (f ≡ 0 → ⊥) → (f ≡ 3 → ⊥) → Function.Unknown ≡ versionFunction f
 unfolding versionFunction

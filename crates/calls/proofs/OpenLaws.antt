@@ -7,7 +7,7 @@ use borrow.Author.Tests.{le-leb, lt-leb, eq-eqb, ne-eqb}
 use Rattle.rules.specs.declared.Function.{Function}
 use Rattle.rules.specs.declared.Refusal.the-variants.{EBADTRAP, ENOTSUPPORTED}
 use Rattle.rules.specs.declared.Versions.{Versions}
-use Rattle.rules.specs.Calls.{negotiatedAs, admitted}
+use Rattle.rules.specs.Calls.{negotiatedAs, negotiatedAsOne, negotiatedAsTwo, admitted}
 use Rattle.records.specs.declared.Verdict.{Verdict}
 use Rattle.records.specs.declared.Verdict.the-variants.{Right, Refused}
 use Rattle.records.specs.Verdict.{verdictOf}
@@ -51,20 +51,20 @@ group-told major f = go (leb 1 major) refl
     go true e = rw e
     go false e = rw e
 
-pub sysino-told : (v : Versions) (f : ℕ) → sysinoOpen (v .interrupt) ≡ verdictOf (admitted v (Function.Sysino f))
-unfolding sysinoOpen verdictOf admitted
-sysino-told v f = go (leb 1 (v .interrupt)) (eqb (v .interrupt) 1) refl refl
+pub sysino-told : (major : ℕ) (f : Function) → sysinoOpen major ≡ verdictOf (negotiatedAsOne major f)
+unfolding sysinoOpen verdictOf
+sysino-told major f = go (leb 1 major) (eqb major 1) refl refl
   where
-    go : (s t : Bool) → leb 1 (v .interrupt) ≡ s → eqb (v .interrupt) 1 ≡ t → sysinoOpen (v .interrupt) ≡ verdictOf (admitted v (Function.Sysino f))
+    go : (s t : Bool) → leb 1 major ≡ s → eqb major 1 ≡ t → sysinoOpen major ≡ verdictOf (negotiatedAsOne major f)
     go true true p q = rw (p, q)
     go true false p q = rw (p, q)
     go false t p q = rw p
 
-pub cookie-told : (v : Versions) (f : ℕ) → cookieOpen (v .interrupt) ≡ verdictOf (admitted v (Function.Cookie f))
-unfolding cookieOpen verdictOf admitted
-cookie-told v f = go (eqb (v .interrupt) 2) refl
+pub cookie-told : (major : ℕ) (f : Function) → cookieOpen major ≡ verdictOf (negotiatedAsTwo major f)
+unfolding cookieOpen verdictOf
+cookie-told major f = go (eqb major 2) refl
   where
-    go : (t : Bool) → eqb (v .interrupt) 2 ≡ t → cookieOpen (v .interrupt) ≡ verdictOf (admitted v (Function.Cookie f))
+    go : (t : Bool) → eqb major 2 ≡ t → cookieOpen major ≡ verdictOf (negotiatedAsTwo major f)
     go true p = rw p
     go false p = rw p
 

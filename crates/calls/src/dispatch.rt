@@ -26,30 +26,13 @@ use versions::get_version;
 use versions::set_version;
 use words::mem_scrub;
 use words::mem_sync;
-ghost use mathlib.Core.Path.{_≡_};
-ghost use Prim.Native.Nat.{_≤_, _<_};
+ghost use Prim.Native.Nat.{_<_};
 ghost use lib.ListN.{length};
-ghost use Rattle.rules.specs.Limits.{sourceLimit};
 ghost use Rattle.rules.specs.Real.{sightOf};
-ghost use Rattle.rules.specs.Rulings.{outcomeOf};
 ghost use Rattle.rules.specs.Calls.{perform, call};
 ghost use Rattle.memory.specs.Ready.{present};
 ghost use Rattle.records.specs.Sound.{Sound};
-ghost use Rattle.plants.specs.Done.{quietly};
 ghost use Rattle.plants.specs.Follows.{Follows};
-ghost use Rattle.calls.specs.Dispatch.{sysinoRule};
-
-// 0xa0 to 0xa6.
-fn sysino_call(plant: Plant, c: Call, function: u64) -> Done
-    requires { ⌜ plant .sources ≤ sourceLimit ⌝ }
-    ensures { λ r. ⌜ quietly plant r ≡ outcomeOf plant (sysinoRule plant c function) ⌝ }
-{
-    if function == 0xa0 {
-        let answer = intr_devino2sysino(plant, c.arg0, c.arg1);
-        return told(answer);
-    }
-    intr(plant, function, c.arg0, c.arg1)
-}
 
 fn perform(extents: Extents, plant: Plant, mem: &mut [u8], c: Call, f: Function) -> Done
     requires { ⌜ Sound extents plant (length (now mem)) ⌝ }
@@ -84,8 +67,12 @@ fn perform(extents: Extents, plant: Plant, mem: &mut [u8], c: Call, f: Function)
             let answer = mmustat_info(plant, cpu);
             told(answer)
         }
-        Function::Sysino(function) => sysino_call(plant, c, function),
-        Function::Cookie(function) => vintr(plant, function, c.arg0, c.arg1, c.arg2),
+        Function::IntrDevino2sysino => {
+            let answer = intr_devino2sysino(plant, c.arg0, c.arg1);
+            told(answer)
+        }
+        Function::Sysino(asked) => intr(plant, asked, c.arg0, c.arg1),
+        Function::Cookie(asked) => vintr(plant, asked, c.arg0, c.arg1, c.arg2),
     }
 }
 

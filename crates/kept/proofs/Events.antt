@@ -14,12 +14,11 @@ use Rattle.rules.specs.Rulings.{Ruling, granted, Outcome, _or-refuse_then_, _gr
 use Rattle.rules.specs.Versions.{groupOf, known, majorOf, get-version}
 use Rattle.rules.specs.Queues.{isQueue, cpu-qinfo, cpu-myid, write-head}
 use Rattle.rules.specs.Memory.{wholePages, mem-scrub, mem-sync, wholeWord, store-word, load-word, mmustat-info}
-use Rattle.rules.specs.Sources.{intr-devino2sysino, intr}
-use Rattle.rules.specs.Calls.{functionOf, admitted, perform, call}
+use Rattle.rules.specs.Calls.{functionOf, negotiatedAsOne, admitted, perform, call}
 use Rattle.rules.specs.Tables.{plantKeeps}
 use Rattle.rules.specs.Host.{plantRule}
 use Rattle.kept.proofs.Plants.{unchanged}
-use Rattle.kept.proofs.Rulings.{Fine, fine-then, fine-if}
+use Rattle.kept.proofs.Rulings.{Fine, fine-then}
 use Rattle.kept.proofs.Queues.{qconf-fine, head-fine, mondo-fine}
 use Rattle.kept.proofs.Tsbs.{ctx0-fine, ctxnon0-fine, statistics-fine}
 use Rattle.kept.proofs.Sources.{raise-fine, devino-fine, intr-fine, vintr-fine}
@@ -76,11 +75,14 @@ module _ (sight : Sight) (plant : Plant) (e : plantKeeps (sight .valid) plant �
     group-fine true f x = x
     group-fine false f x = unchanged v plant e
 
-    sysino-fine : (n : ℕ) → 1 ≤ plant .versions .interrupt → Fine v plant (perform sight plant c (Function.Sysino n))
-    unfolding perform
-    sysino-fine n m =
-        fine-if v plant (eqb n 0xa0) (intr-devino2sysino plant (c .arg0) (c .arg1)) (intr plant n (c .arg0) (c .arg1))
-        (λ _. devino-fine v plant e (c .arg0) (c .arg1)) (λ _. intr-fine v plant e n (c .arg0) (c .arg1) m)
+    -- and of group 2 at 1.0
+    sysino-fine : (f : Function) → (1 ≤ plant .versions .interrupt → Fine v plant (perform sight plant c f)) → Fine v plant (negotiatedAsOne (plant .versions .interrupt) f grants λ f. perform sight plant c f)
+    sysino-fine f x = go (leb 1 (plant .versions .interrupt)) refl (eqb (plant .versions .interrupt) 1)
+      where
+        go : (t : Bool) → leb 1 (plant .versions .interrupt) ≡ t → (u : Bool) → Fine v plant ((t or-refuse EBADTRAP then u or-refuse ENOTSUPPORTED then granted f) grants λ f. perform sight plant c f)
+        go true p true = x (leb-true 1 (plant .versions .interrupt) p)
+        go true p false = unchanged v plant e
+        go false p u = unchanged v plant e
 
     perform-fine : (f : Function) → Fine v plant (admitted (plant .versions) f grants λ f. perform sight plant c f)
     unfolding admitted perform cpu-myid mmustat-info
@@ -97,16 +99,12 @@ module _ (sight : Sight) (plant : Plant) (e : plantKeeps (sight .valid) plant �
     perform-fine Function.MemSync = group-fine (leb 1 (plant .versions .core)) Function.MemSync (sync-fine (c .arg0) (c .arg1))
     perform-fine Function.MmustatConf = group-fine (leb 1 (plant .versions .statistics)) Function.MmustatConf (statistics-fine v plant e (c .cpu) there (c .arg0))
     perform-fine Function.MmustatInfo = group-fine (leb 1 (plant .versions .statistics)) Function.MmustatInfo (unchanged v plant e)
-    perform-fine (Function.Sysino n) = go (leb 1 (plant .versions .interrupt)) refl (eqb (plant .versions .interrupt) 1)
+    perform-fine Function.IntrDevino2sysino = sysino-fine Function.IntrDevino2sysino (λ _. devino-fine v plant e (c .arg0) (c .arg1))
+    perform-fine (Function.Sysino k) = sysino-fine (Function.Sysino k) (λ m. intr-fine v plant e k (c .arg0) (c .arg1) m)
+    perform-fine (Function.Cookie k) = go (eqb (plant .versions .interrupt) 2) refl
       where
-        go : (t : Bool) → leb 1 (plant .versions .interrupt) ≡ t → (u : Bool) → Fine v plant ((t or-refuse EBADTRAP then u or-refuse ENOTSUPPORTED then granted (Function.Sysino n)) grants λ f. perform sight plant c f)
-        go true p true = sysino-fine n (leb-true 1 (plant .versions .interrupt) p)
-        go true p false = unchanged v plant e
-        go false p u = unchanged v plant e
-    perform-fine (Function.Cookie n) = go (eqb (plant .versions .interrupt) 2) refl
-      where
-        go : (t : Bool) → eqb (plant .versions .interrupt) 2 ≡ t → Fine v plant ((t or-refuse EBADTRAP then granted (Function.Cookie n)) grants λ f. perform sight plant c f)
-        go true p = vintr-fine v plant e n (c .arg0) (c .arg1) (c .arg2) (eqb-true (plant .versions .interrupt) 2 p)
+        go : (t : Bool) → eqb (plant .versions .interrupt) 2 ≡ t → Fine v plant ((t or-refuse EBADTRAP then granted (Function.Cookie k)) grants λ f. perform sight plant c f)
+        go true p = vintr-fine v plant e k (c .arg0) (c .arg1) (c .arg2) (eqb-true (plant .versions .interrupt) 2 p)
         go false p = unchanged v plant e
 
     call-fine : Fine v plant (call sight plant c)

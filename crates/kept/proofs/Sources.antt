@@ -8,15 +8,17 @@ use borrow.Author.Tests.{leb-true, ltb-true, eq-eqb, ne-eqb, eqb-false}
 use Rattle.rules.specs.declared.Found.{Found}
 use Rattle.rules.specs.declared.Plant.{Plant}
 use Rattle.rules.specs.declared.Refusal.{Refusal}
-use Rattle.rules.specs.declared.Refusal.the-variants.{EINVAL, ENOCPU, ENOTSUPPORTED, EBADTRAP, NoSource}
+use Rattle.rules.specs.declared.Refusal.the-variants.{EINVAL, ENOCPU, ENOTSUPPORTED, NoSource}
 use Rattle.rules.specs.declared.Answer.the-variants.{One}
+use Rattle.rules.specs.declared.CookieCall.{CookieCall}
 use Rattle.rules.specs.declared.Source.{Source}
+use Rattle.rules.specs.declared.SourceCall.{SourceCall}
 use Rattle.rules.specs.declared.Target.{Target}
 use Rattle.rules.specs.Limits.{devhandles, devinos}
 use Rattle.rules.specs.Kept.{sourceAt, withSource, withQueue, withEnabled, withState, withTarget, withCookie}
-use Rattle.rules.specs.Rulings.{Ruling, refused, granted, Outcome, says, done, _or-refuse_then_, if_then_else_}
+use Rattle.rules.specs.Rulings.{Ruling, granted, Outcome, says, done, _or-refuse_then_, if_then_else_}
 use Rattle.rules.specs.Queues.{Put, put}
-use Rattle.rules.specs.Sources.{sysinoOf, found, get-enabled, set-enabled, get-state, set-state, get-target, set-target, get-cookie, set-cookie, intr-devino2sysino, bySysino, byName, intr, vintr, targetNumber, targetSet, deviceEntry, raiseAt, raise}
+use Rattle.rules.specs.Sources.{sysinoOf, found, get-enabled, set-enabled, get-state, set-state, get-target, set-target, get-cookie, set-cookie, intr-devino2sysino, sourceCall, cookieCall, intr, vintr, targetNumber, targetSet, deviceEntry, raiseAt, raise}
 use Rattle.rules.specs.Tables.{targetRight, cookieRight, enabledRight, sourceRight, plantKeeps}
 use Rattle.rules.proofs.Scan.{first-below}
 use Rattle.rules.proofs.Tests.{and-left, and-right}
@@ -216,63 +218,34 @@ module _ (v : ℕ → ℕ → Bool) (plant : Plant) (e : plantKeeps v plant ≡ 
   devino-fine devhandle devino =
       fine-grants v plant e (found EINVAL (sysinoOf plant devhandle devino)) (λ i. says (One i) plant) (λ i g. unchanged v plant e)
 
-  pub intr-fine : (function sysino value : ℕ) → 1 ≤ plant .versions .interrupt → Fine v plant (intr plant function sysino value)
-  unfolding intr bySysino get-enabled get-state get-target
-  intr-fine function sysino value m =
-      let none : Ruling Outcome = refused EBADTRAP in
-      let six : Ruling Outcome = if eqb function 0xa6 then set-target plant sysino value else none in
-      let five : Ruling Outcome = if eqb function 0xa5 then get-target plant sysino else six in
-      let four : Ruling Outcome = if eqb function 0xa4 then set-state plant sysino value else five in
-      let three : Ruling Outcome = if eqb function 0xa3 then get-state plant sysino else four in
-      let two : Ruling Outcome = if eqb function 0xa2 then set-enabled plant sysino value else three in
-      let one : Ruling Outcome = if eqb function 0xa1 then get-enabled plant sysino else two in
-      fine-then v plant e (ltb sysino (plant .sources)) EINVAL one (λ h.
-      let l : sysino < plant .sources = ltb-true sysino (plant .sources) h in
-      fine-if v plant (eqb function 0xa1) (get-enabled plant sysino) two (λ _. unchanged v plant e) (λ _.
-      fine-if v plant (eqb function 0xa2) (set-enabled plant sysino value) three (λ _. set-enabled-fine v plant e sysino l value m) (λ _.
-      fine-if v plant (eqb function 0xa3) (get-state plant sysino) four (λ _. unchanged v plant e) (λ _.
-      fine-if v plant (eqb function 0xa4) (set-state plant sysino value) five (λ _. set-state-fine v plant e sysino l value) (λ _.
-      fine-if v plant (eqb function 0xa5) (get-target plant sysino) six (λ _. unchanged v plant e) (λ _.
-      fine-if v plant (eqb function 0xa6) (set-target plant sysino value) none (λ _. set-target-fine v plant e sysino l value) (λ _. unchanged v plant e)))))))
+  module _ (i value : ℕ) (there : i < plant .sources) where
+    call-fine : (call : SourceCall) → 1 ≤ plant .versions .interrupt → Fine v plant (sourceCall plant i value call)
+    unfolding sourceCall get-enabled get-state get-target
+    call-fine SourceCall.GetEnabled m = unchanged v plant e
+    call-fine SourceCall.SetEnabled m = set-enabled-fine v plant e i there value m
+    call-fine SourceCall.GetState m = unchanged v plant e
+    call-fine SourceCall.SetState m = set-state-fine v plant e i there value
+    call-fine SourceCall.GetTarget m = unchanged v plant e
+    call-fine SourceCall.SetTarget m = set-target-fine v plant e i there value
 
-  pub vintr-fine : (function devhandle devino value : ℕ) → plant .versions .interrupt ≡ 2 → Fine v plant (vintr plant function devhandle devino value)
-  unfolding vintr byName get-cookie get-enabled get-state get-target
-  vintr-fine function devhandle devino value two =
+    cookie-call-fine : (call : CookieCall) → plant .versions .interrupt ≡ 2 → sourceAt plant i .cookies ≡ true → Fine v plant (cookieCall plant i value call)
+    unfolding cookieCall get-cookie
+    cookie-call-fine CookieCall.GetCookie two s = unchanged v plant e
+    cookie-call-fine CookieCall.SetCookie two s = set-cookie-fine v plant e i there value two s
+    cookie-call-fine (CookieCall.Source call) two s = call-fine call (omega arith)
+
+  pub intr-fine : (call : SourceCall) (sysino value : ℕ) → 1 ≤ plant .versions .interrupt → Fine v plant (intr plant call sysino value)
+  unfolding intr
+  intr-fine call sysino value m =
+      fine-then v plant e (ltb sysino (plant .sources)) EINVAL (sourceCall plant sysino value call) (λ h.
+      call-fine sysino value (ltb-true sysino (plant .sources) h) call m)
+
+  pub vintr-fine : (call : CookieCall) (devhandle devino value : ℕ) → plant .versions .interrupt ≡ 2 → Fine v plant (vintr plant call devhandle devino value)
+  unfolding vintr
+  vintr-fine call devhandle devino value two =
       fine-grants v plant e (found EINVAL (sysinoOf plant devhandle devino)) supported (λ i g.
-      let l : i < plant .sources = found-there plant devhandle devino EINVAL i g in
-      fine-then v plant e (sourceAt plant i .cookies) ENOTSUPPORTED (a7 i) (λ c.
-      fine-if v plant (eqb function 0xa7) (get-cookie plant i) (a8 i) (λ _. unchanged v plant e) (λ _.
-      fine-if v plant (eqb function 0xa8) (set-cookie plant i value) (a9 i) (λ _. set-cookie-fine v plant e i l value two c) (λ _.
-      fine-if v plant (eqb function 0xa9) (get-enabled plant i) (aa i) (λ _. unchanged v plant e) (λ _.
-      fine-if v plant (eqb function 0xaa) (set-enabled plant i value) (ab i) (λ _. set-enabled-fine v plant e i l value (omega arith)) (λ _.
-      fine-if v plant (eqb function 0xab) (get-state plant i) (ac i) (λ _. unchanged v plant e) (λ _.
-      fine-if v plant (eqb function 0xac) (set-state plant i value) (ad i) (λ _. set-state-fine v plant e i l value) (λ _.
-      fine-if v plant (eqb function 0xad) (get-target plant i) (ae i) (λ _. unchanged v plant e) (λ _.
-      fine-if v plant (eqb function 0xae) (set-target plant i value) (refused EBADTRAP) (λ _. set-target-fine v plant e i l value) (λ _. unchanged v plant e))))))))))
+      fine-then v plant e (sourceAt plant i .cookies) ENOTSUPPORTED (cookieCall plant i value call) (λ s.
+      cookie-call-fine i value (found-there plant devhandle devino EINVAL i g) call two s))
     where
-      ae : ℕ → Ruling Outcome
-      ae i = if eqb function 0xae then set-target plant i value else refused EBADTRAP
-
-      ad : ℕ → Ruling Outcome
-      ad i = if eqb function 0xad then get-target plant i else ae i
-
-      ac : ℕ → Ruling Outcome
-      ac i = if eqb function 0xac then set-state plant i value else ad i
-
-      ab : ℕ → Ruling Outcome
-      ab i = if eqb function 0xab then get-state plant i else ac i
-
-      aa : ℕ → Ruling Outcome
-      aa i = if eqb function 0xaa then set-enabled plant i value else ab i
-
-      a9 : ℕ → Ruling Outcome
-      a9 i = if eqb function 0xa9 then get-enabled plant i else aa i
-
-      a8 : ℕ → Ruling Outcome
-      a8 i = if eqb function 0xa8 then set-cookie plant i value else a9 i
-
-      a7 : ℕ → Ruling Outcome
-      a7 i = if eqb function 0xa7 then get-cookie plant i else a8 i
-
       supported : ℕ → Ruling Outcome
-      supported i = sourceAt plant i .cookies or-refuse ENOTSUPPORTED then a7 i
+      supported i = sourceAt plant i .cookies or-refuse ENOTSUPPORTED then cookieCall plant i value call

@@ -12,12 +12,14 @@ use Rattle.rules.specs.declared.Answer.{Answer}
 use Rattle.rules.specs.declared.Answer.the-variants.{Done, One, Two, Refused}
 use Rattle.rules.specs.declared.Call.{Call}
 use Rattle.rules.specs.declared.Event.{Event}
+use Rattle.rules.specs.declared.CookieCall.{CookieCall}
 use Rattle.rules.specs.declared.Function.{Function}
 use Rattle.rules.specs.declared.Owner.{Owner}
 use Rattle.rules.specs.declared.Plant.{Plant}
 use Rattle.rules.specs.declared.QueueRecord.{QueueRecord}
 use Rattle.rules.specs.declared.Refusal.{Refusal}
 use Rattle.rules.specs.declared.Refusal.the-variants.{EINVAL, EBADALIGN, ENORADDR, ENOCPU, EBADTRAP, ENOTSUPPORTED, EWOULDBLOCK, NoCaller, NoSource, BadTables, ShortMemory}
+use Rattle.rules.specs.declared.SourceCall.{SourceCall}
 use Rattle.rules.specs.declared.Tables.{Tables}
 use Rattle.rules.specs.Scan.{someBelow, allBelow}
 use Rattle.rules.specs.Kept.{plantAt, cpuAt, queueAt, sourceAt, extentsOf, hollowGuest, withStatistics}
@@ -28,8 +30,8 @@ use Rattle.rules.specs.Queues.{isQueue, forward, newRing, put, ringOf, baseAndS
 use Rattle.rules.specs.Mondo.{entryAt, entries, Sent, sendAll, sentAs, cpu-mondo-send}
 use Rattle.rules.specs.Tsb.{newTsbs, mmu-tsb-ctx0, mmu-tsb-ctxnon0}
 use Rattle.rules.specs.Memory.{wholePages, mem-scrub, mem-sync, wholeWord, store-word, load-word, newStatistics, setOrClear, mmustat-conf, mmustat-info}
-use Rattle.rules.specs.Sources.{found, sysinoOf, targetNumber, targetSet, deviceEntry, get-enabled, set-enabled, get-state, set-state, get-target, set-target, get-cookie, set-cookie, intr-devino2sysino, bySysino, byName, intr, vintr, raiseAt, raise}
-use Rattle.rules.specs.Calls.{functionOf, admitted, perform, call}
+use Rattle.rules.specs.Sources.{found, sysinoOf, targetNumber, targetSet, deviceEntry, get-enabled, set-enabled, get-state, set-state, get-target, set-target, get-cookie, set-cookie, intr-devino2sysino, sourceCall, cookieCall, intr, vintr, raiseAt, raise}
+use Rattle.rules.specs.Calls.{functionOf, negotiatedAsOne, admitted, perform, call}
 use Rattle.rules.specs.Tables.{keepRules}
 use Rattle.rules.specs.Host.{HostOutcome, plantRule, ownerOf, longEnough, answeredBy, hostOutcomeOf, hostRule, hostEvent}
 
@@ -183,30 +185,30 @@ module _ (plant : Plant) (r : Refusal) where
   unfolding intr-devino2sysino
   devino-still devhandle devino = still-grants (found EINVAL (sysinoOf plant devhandle devino)) _ (λ i. still-granted _ refl)
 
-  intr-still : (function sysino value : ℕ) → Still (intr plant function sysino value)
-  unfolding intr bySysino get-enabled get-state get-target
-  intr-still function sysino value =
-      still-then (ltb sysino (plant .sources)) EINVAL _
-      (still-if (eqb function 0xa1) _ _ (still-granted _ refl)
-      (still-if (eqb function 0xa2) _ _ (set-enabled-still sysino value)
-      (still-if (eqb function 0xa3) _ _ (still-granted _ refl)
-      (still-if (eqb function 0xa4) _ _ (set-state-still sysino value)
-      (still-if (eqb function 0xa5) _ _ (still-granted _ refl)
-      (still-if (eqb function 0xa6) _ _ (set-target-still sysino value) (still-refused EBADTRAP)))))))
+  source-still : (i value : ℕ) (call : SourceCall) → Still (sourceCall plant i value call)
+  unfolding sourceCall get-enabled get-state get-target
+  source-still i value SourceCall.GetEnabled = still-granted _ refl
+  source-still i value SourceCall.SetEnabled = set-enabled-still i value
+  source-still i value SourceCall.GetState = still-granted _ refl
+  source-still i value SourceCall.SetState = set-state-still i value
+  source-still i value SourceCall.GetTarget = still-granted _ refl
+  source-still i value SourceCall.SetTarget = set-target-still i value
 
-  vintr-still : (function devhandle devino value : ℕ) → Still (vintr plant function devhandle devino value)
-  unfolding vintr byName get-cookie get-enabled get-state get-target
-  vintr-still function devhandle devino value =
+  cookie-still : (i value : ℕ) (call : CookieCall) → Still (cookieCall plant i value call)
+  unfolding cookieCall get-cookie
+  cookie-still i value CookieCall.GetCookie = still-granted _ refl
+  cookie-still i value CookieCall.SetCookie = set-cookie-still i value
+  cookie-still i value (CookieCall.Source call) = source-still i value call
+
+  intr-still : (call : SourceCall) (sysino value : ℕ) → Still (intr plant call sysino value)
+  unfolding intr
+  intr-still call sysino value = still-then (ltb sysino (plant .sources)) EINVAL _ (source-still sysino value call)
+
+  vintr-still : (call : CookieCall) (devhandle devino value : ℕ) → Still (vintr plant call devhandle devino value)
+  unfolding vintr
+  vintr-still call devhandle devino value =
       still-grants (found EINVAL (sysinoOf plant devhandle devino)) _ (λ i.
-      still-then (sourceAt plant i .cookies) ENOTSUPPORTED _
-      (still-if (eqb function 0xa7) _ _ (still-granted _ refl)
-      (still-if (eqb function 0xa8) _ _ (set-cookie-still i value)
-      (still-if (eqb function 0xa9) _ _ (still-granted _ refl)
-      (still-if (eqb function 0xaa) _ _ (set-enabled-still i value)
-      (still-if (eqb function 0xab) _ _ (still-granted _ refl)
-      (still-if (eqb function 0xac) _ _ (set-state-still i value)
-      (still-if (eqb function 0xad) _ _ (still-granted _ refl)
-      (still-if (eqb function 0xae) _ _ (set-target-still i value) (still-refused EBADTRAP))))))))))
+      still-then (sourceAt plant i .cookies) ENOTSUPPORTED _ (cookie-still i value call))
 
   -- a raise
   raise-still : (devhandle devino : ℕ) → Still (raise plant devhandle devino)
@@ -223,6 +225,14 @@ module _ (plant : Plant) (r : Refusal) where
     group-still true f s = s
     group-still false f s = still-refused EBADTRAP
 
+    sysino-still : (f : Function) → Still (perform sight plant c f) → Still (negotiatedAsOne (plant .versions .interrupt) f grants λ f. perform sight plant c f)
+    sysino-still f s = go (leb 1 (plant .versions .interrupt)) (eqb (plant .versions .interrupt) 1)
+      where
+        go : (t u : Bool) → Still ((t or-refuse EBADTRAP then u or-refuse ENOTSUPPORTED then granted f) grants λ f. perform sight plant c f)
+        go true true = s
+        go true false = still-refused ENOTSUPPORTED
+        go false u = still-refused EBADTRAP
+
     perform-still : (r ≡ EWOULDBLOCK → ⊥) → (f : Function) → ((f ≡ Function.MmustatConf) × Clears r → ⊥) → Still (admitted (plant .versions) f grants λ f. perform sight plant c f)
     unfolding admitted perform cpu-myid mmustat-info mem-scrub mem-sync
     perform-still m Function.Unknown n = still-refused EBADTRAP
@@ -238,12 +248,8 @@ module _ (plant : Plant) (r : Refusal) where
     perform-still m Function.MemSync n = group-still (leb 1 (plant .versions .core)) Function.MemSync (pages-still (sight .valid) (c .arg0) (c .arg1) _ (still-granted _ refl))
     perform-still m Function.MmustatConf n = group-still (leb 1 (plant .versions .statistics)) Function.MmustatConf (conf-still (λ k. n (refl, k)) (sight .valid) (c .cpu) (c .arg0))
     perform-still m Function.MmustatInfo n = group-still (leb 1 (plant .versions .statistics)) Function.MmustatInfo (still-granted _ refl)
-    perform-still m (Function.Sysino k) n = go (leb 1 (plant .versions .interrupt)) (eqb (plant .versions .interrupt) 1)
-      where
-        go : (t u : Bool) → Still ((t or-refuse EBADTRAP then u or-refuse ENOTSUPPORTED then granted (Function.Sysino k)) grants λ f. perform sight plant c f)
-        go true true = still-if (eqb k 0xa0) _ _ (devino-still (c .arg0) (c .arg1)) (intr-still k (c .arg0) (c .arg1))
-        go true false = still-refused ENOTSUPPORTED
-        go false u = still-refused EBADTRAP
+    perform-still m Function.IntrDevino2sysino n = sysino-still Function.IntrDevino2sysino (devino-still (c .arg0) (c .arg1))
+    perform-still m (Function.Sysino k) n = sysino-still (Function.Sysino k) (intr-still k (c .arg0) (c .arg1))
     perform-still m (Function.Cookie k) n = go (eqb (plant .versions .interrupt) 2)
       where
         go : (t : Bool) → Still ((t or-refuse EBADTRAP then granted (Function.Cookie k)) grants λ f. perform sight plant c f)

@@ -1,8 +1,7 @@
 -- "Which calls exist": the function number picks the group before any argument is read.
 use Prim.Native.Nat.{ℕ}
-use mathlib.Core.Bool.{_&&_}
 use lib.Dec.{leb, eqb}
-use Rattle.rules.specs.Types.{Function, Versions, Plant, Call, EBADTRAP, ENOTSUPPORTED}
+use Rattle.rules.specs.Types.{SourceCall, CookieCall, Function, Versions, Plant, Call, EBADTRAP, ENOTSUPPORTED}
 use Rattle.rules.specs.Real.{Sight}
 use Rattle.rules.specs.Rulings.{Ruling, refused, granted, Outcome, _or-refuse_then_, _grants_, if_then_else_}
 use Rattle.rules.specs.Versions.{set-version, get-version}
@@ -31,8 +30,21 @@ fastFunction function =
     if eqb function 0x31 then Function.MemScrub else
     if eqb function 0x32 then Function.MemSync else
     if eqb function 0x42 then Function.CpuMondoSend else
-    if leb 0xa0 function && leb function 0xa6 then Function.Sysino function else
-    if leb 0xa7 function && leb function 0xae then Function.Cookie function else
+    if eqb function 0xa0 then Function.IntrDevino2sysino else
+    if eqb function 0xa1 then Function.Sysino SourceCall.GetEnabled else
+    if eqb function 0xa2 then Function.Sysino SourceCall.SetEnabled else
+    if eqb function 0xa3 then Function.Sysino SourceCall.GetState else
+    if eqb function 0xa4 then Function.Sysino SourceCall.SetState else
+    if eqb function 0xa5 then Function.Sysino SourceCall.GetTarget else
+    if eqb function 0xa6 then Function.Sysino SourceCall.SetTarget else
+    if eqb function 0xa7 then Function.Cookie CookieCall.GetCookie else
+    if eqb function 0xa8 then Function.Cookie CookieCall.SetCookie else
+    if eqb function 0xa9 then Function.Cookie (CookieCall.Source SourceCall.GetEnabled) else
+    if eqb function 0xaa then Function.Cookie (CookieCall.Source SourceCall.SetEnabled) else
+    if eqb function 0xab then Function.Cookie (CookieCall.Source SourceCall.GetState) else
+    if eqb function 0xac then Function.Cookie (CookieCall.Source SourceCall.SetState) else
+    if eqb function 0xad then Function.Cookie (CookieCall.Source SourceCall.GetTarget) else
+    if eqb function 0xae then Function.Cookie (CookieCall.Source SourceCall.SetTarget) else
     if eqb function 0x102 then Function.MmustatConf else
     if eqb function 0x103 then Function.MmustatInfo else
     Function.Unknown
@@ -46,6 +58,17 @@ functionOf trap function =
 -- a function whose group has to be negotiated, at any version
 abbrev pub negotiatedAs : ℕ → Function → Ruling Function
 negotiatedAs major function = leb 1 major or-refuse EBADTRAP then granted function
+
+-- 0xa0 to 0xa6: "Under 2.0, .. ENOTSUPPORTED (002)"
+abbrev pub negotiatedAsOne : ℕ → Function → Ruling Function
+negotiatedAsOne major function =
+    leb 1 major or-refuse EBADTRAP then
+    eqb major 1 or-refuse ENOTSUPPORTED then
+    granted function
+
+-- 0xa7 to 0xae: "under 1.0 .. EBADTRAP"
+abbrev pub negotiatedAsTwo : ℕ → Function → Ruling Function
+negotiatedAsTwo major function = eqb major 2 or-refuse EBADTRAP then granted function
 
 -- "Another trap or function, a group not negotiated, or under 1.0 0xa7 to 0xae: EBADTRAP. Under 2.0, 0xa0 to 0xa6:
 -- ENOTSUPPORTED (002)."
@@ -63,13 +86,9 @@ admitted v Function.MemScrub = negotiatedAs (v .core) Function.MemScrub
 admitted v Function.MemSync = negotiatedAs (v .core) Function.MemSync
 admitted v Function.MmustatConf = negotiatedAs (v .statistics) Function.MmustatConf
 admitted v Function.MmustatInfo = negotiatedAs (v .statistics) Function.MmustatInfo
-admitted v (Function.Sysino function) =
-    leb 1 (v .interrupt) or-refuse EBADTRAP then
-    eqb (v .interrupt) 1 or-refuse ENOTSUPPORTED then
-    granted (Function.Sysino function)
-admitted v (Function.Cookie function) =
-    eqb (v .interrupt) 2 or-refuse EBADTRAP then
-    granted (Function.Cookie function)
+admitted v Function.IntrDevino2sysino = negotiatedAsOne (v .interrupt) Function.IntrDevino2sysino
+admitted v (Function.Sysino call) = negotiatedAsOne (v .interrupt) (Function.Sysino call)
+admitted v (Function.Cookie call) = negotiatedAsTwo (v .interrupt) (Function.Cookie call)
 
 -- the rule of each function, with the arguments that it takes
 unfoldable pub perform : Sight → Plant → Call → Function → Ruling Outcome
@@ -86,11 +105,9 @@ perform sight plant c Function.MemScrub = mem-scrub (sight .valid) plant (c .arg
 perform sight plant c Function.MemSync = mem-sync (sight .valid) plant (c .arg0) (c .arg1)
 perform sight plant c Function.MmustatConf = mmustat-conf (sight .valid) plant (c .cpu) (c .arg0)
 perform sight plant c Function.MmustatInfo = mmustat-info plant (c .cpu)
-perform sight plant c (Function.Sysino function) =
-    if eqb function 0xa0
-    then intr-devino2sysino plant (c .arg0) (c .arg1)
-    else intr plant function (c .arg0) (c .arg1)
-perform sight plant c (Function.Cookie function) = vintr plant function (c .arg0) (c .arg1) (c .arg2)
+perform sight plant c Function.IntrDevino2sysino = intr-devino2sysino plant (c .arg0) (c .arg1)
+perform sight plant c (Function.Sysino call) = intr plant call (c .arg0) (c .arg1)
+perform sight plant c (Function.Cookie call) = vintr plant call (c .arg0) (c .arg1) (c .arg2)
 
 unfoldable pub call : Sight → Plant → Call → Ruling Outcome
 call sight plant c =

@@ -4,7 +4,7 @@ use mathlib.Core.List.{List, _++_}
 use Prim.Native.Nat.{ℕ}
 use lib.Dec.{leb, ltb, eqb}
 use lib.ListN.{replicate}
-use Rattle.rules.specs.Types.{Found, Target, Source, Plant, One, Refusal, EINVAL, ENOCPU, ENOTSUPPORTED, EBADTRAP, NoSource}
+use Rattle.rules.specs.Types.{Found, Target, Source, Plant, SourceCall, CookieCall, One, Refusal, EINVAL, ENOCPU, ENOTSUPPORTED, NoSource}
 use Rattle.rules.specs.Scan.{firstBelow}
 use Rattle.rules.specs.Kept.{sourceAt, withSource, withEnabled, withState, withTarget, withCookie}
 use Rattle.rules.specs.Real.{wordBytes}
@@ -76,41 +76,33 @@ intr-devino2sysino plant devhandle devino =
     found EINVAL (sysinoOf plant devhandle devino) grants λ i.
     says (One i) plant
 
--- "get and set enabled .., state .., target; 0xa7, 0xa8 get and set the cookie": which of them a function's number is, of source i
-unfoldable pub bySysino : Plant → ℕ → ℕ → ℕ → Ruling Outcome
-bySysino plant function i value =
-    if eqb function 0xa1 then get-enabled plant i else
-    if eqb function 0xa2 then set-enabled plant i value else
-    if eqb function 0xa3 then get-state plant i else
-    if eqb function 0xa4 then set-state plant i value else
-    if eqb function 0xa5 then get-target plant i else
-    if eqb function 0xa6 then set-target plant i value else
-    refused EBADTRAP
+-- "get and set enabled .., state .., target", of source i
+unfoldable pub sourceCall : Plant → ℕ → ℕ → SourceCall → Ruling Outcome
+sourceCall plant i value SourceCall.GetEnabled = get-enabled plant i
+sourceCall plant i value SourceCall.SetEnabled = set-enabled plant i value
+sourceCall plant i value SourceCall.GetState = get-state plant i
+sourceCall plant i value SourceCall.SetState = set-state plant i value
+sourceCall plant i value SourceCall.GetTarget = get-target plant i
+sourceCall plant i value SourceCall.SetTarget = set-target plant i value
 
-unfoldable pub byName : Plant → ℕ → ℕ → ℕ → Ruling Outcome
-byName plant function i value =
-    if eqb function 0xa7 then get-cookie plant i else
-    if eqb function 0xa8 then set-cookie plant i value else
-    if eqb function 0xa9 then get-enabled plant i else
-    if eqb function 0xaa then set-enabled plant i value else
-    if eqb function 0xab then get-state plant i else
-    if eqb function 0xac then set-state plant i value else
-    if eqb function 0xad then get-target plant i else
-    if eqb function 0xae then set-target plant i value else
-    refused EBADTRAP
+-- "0xa7, 0xa8 get and set the cookie"
+unfoldable pub cookieCall : Plant → ℕ → ℕ → CookieCall → Ruling Outcome
+cookieCall plant i value CookieCall.GetCookie = get-cookie plant i
+cookieCall plant i value CookieCall.SetCookie = set-cookie plant i value
+cookieCall plant i value (CookieCall.Source call) = sourceCall plant i value call
 
 -- 0xa1 to 0xa6 (sysino, value): "source not the caller's EINVAL"
-unfoldable pub intr : Plant → ℕ → ℕ → ℕ → Ruling Outcome
-intr plant function sysino value =
+unfoldable pub intr : Plant → SourceCall → ℕ → ℕ → Ruling Outcome
+intr plant call sysino value =
     ltb sysino (plant .sources) or-refuse EINVAL then
-    bySysino plant function sysino value
+    sourceCall plant sysino value call
 
 -- 0xa7 to 0xae (devhandle, devino, value): "0xa7 up, no cookie support, ENOTSUPPORTED"
-unfoldable pub vintr : Plant → ℕ → ℕ → ℕ → ℕ → Ruling Outcome
-vintr plant function devhandle devino value =
+unfoldable pub vintr : Plant → CookieCall → ℕ → ℕ → ℕ → Ruling Outcome
+vintr plant call devhandle devino value =
     found EINVAL (sysinoOf plant devhandle devino) grants λ i.
     sourceAt plant i .cookies or-refuse ENOTSUPPORTED then
-    byName plant function i value
+    cookieCall plant i value call
 
 -- "word 0 cookie, or under 1.0 sysino; seven zero words"
 unfoldable pub deviceEntry : Plant → ℕ → List ℕ

@@ -24,6 +24,8 @@ pub use Rattle.rules.specs.declared.LoadAt.{LoadAt}
 pub use Rattle.rules.specs.declared.StoreAt.{StoreAt}
 pub use Rattle.rules.specs.declared.Event.{Event}
 pub use Rattle.rules.specs.declared.Group.{Group}
+pub use Rattle.rules.specs.declared.SourceCall.{SourceCall}
+pub use Rattle.rules.specs.declared.CookieCall.{CookieCall}
 pub use Rattle.rules.specs.declared.Function.{Function}
 pub use Rattle.rules.specs.declared.Owner.{Owner}
 pub use Rattle.rules.specs.declared.Refusal.{Refusal}

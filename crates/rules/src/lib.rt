@@ -182,7 +182,24 @@ pub enum Group {
     Statistics,
 }
 
-// The calls, by the papers' names. Sysino are 0xa0 to 0xa6 and Cookie 0xa7 to 0xae, each with its function number.
+// What a call asks of a source.
+pub enum SourceCall {
+    GetEnabled,
+    SetEnabled,
+    GetState,
+    SetState,
+    GetTarget,
+    SetTarget,
+}
+
+// What a call asks of a source that supports cookies.
+pub enum CookieCall {
+    GetCookie,
+    SetCookie,
+    Source(SourceCall),
+}
+
+// The calls, by the papers' names. Sysino are 0xa1 to 0xa6, and Cookie 0xa7 to 0xae.
 pub enum Function {
     Unknown,
     SetVersion,
@@ -197,8 +214,9 @@ pub enum Function {
     MemSync,
     MmustatConf,
     MmustatInfo,
-    Sysino(u64),
-    Cookie(u64),
+    IntrDevino2sysino,
+    Sysino(SourceCall),
+    Cookie(CookieCall),
 }
 
 // The guest that an event belongs to.

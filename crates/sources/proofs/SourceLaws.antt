@@ -7,15 +7,17 @@ use lib.Dec.{eqb}
 use borrow.Author.Tests.{le-leb, lt-leb, lt-ltb, le-ltb, eq-eqb, ne-eqb, not-true, not-false}
 use Rattle.rules.specs.declared.Found.{Found}
 use Rattle.rules.specs.declared.Plant.{Plant}
+use Rattle.rules.specs.declared.CookieCall.{CookieCall}
 use Rattle.rules.specs.declared.Source.{Source}
+use Rattle.rules.specs.declared.SourceCall.{SourceCall}
 use Rattle.rules.specs.declared.Target.{Target}
-use Rattle.rules.specs.declared.Refusal.the-variants.{EINVAL, ENOCPU, ENOTSUPPORTED, EBADTRAP}
+use Rattle.rules.specs.declared.Refusal.the-variants.{EINVAL, ENOCPU, ENOTSUPPORTED}
 use Rattle.rules.specs.declared.Answer.{Answer}
 use Rattle.rules.specs.declared.Answer.the-variants.{One}
 use Rattle.rules.specs.Image.{named}
 use Rattle.rules.specs.Kept.{sourceAt, withSource, withEnabled, withState, withTarget, withCookie}
 use Rattle.rules.specs.Rulings.{refused, outcomeOf, says, done}
-use Rattle.rules.specs.Sources.{sysinoOf, targetNumber, set-enabled, set-state, get-target, set-target, set-cookie, intr-devino2sysino, bySysino, byName, intr, vintr}
+use Rattle.rules.specs.Sources.{sysinoOf, targetNumber, set-enabled, set-state, get-target, set-target, set-cookie, intr-devino2sysino, sourceCall, cookieCall, intr, vintr}
 use Rattle.rules.proofs.Scan.{first-below}
 use Rattle.plants.specs.declared.change.Change.{Change}
 use Rattle.plants.specs.declared.change.Done.{Done}
@@ -110,43 +112,38 @@ module _ (version cookie value : ℕ) where
     pub cookie-none : version ≡ 2 → eqb cookie 0 ≡ (eqb value 1 && (eqb version 2 && eqb cookie 0))
     cookie-none b = rw (eq-eqb _ _ a, eq-eqb _ _ b)
 
--- The rule at the number k of the function, where it computes: d is what the function's own call gave, or what was made of its
--- answer a.
-module _ (plant : Plant) (function sysino value : ℕ) where
-  pub intr-past : plant .sources ≤ sysino → intr plant function sysino value ≡ refused EINVAL
+-- a call of a source: d is what its own function gave, or what was made of its answer a
+pub source-at : (plant : Plant) (i value : ℕ) (call k : SourceCall) (d : Done) → call ≡ k → quietly plant d ≡ outcomeOf plant (sourceCall plant i value k) → quietly plant d ≡ outcomeOf plant (sourceCall plant i value call)
+source-at plant i value call k d e f = rw e f
+
+pub source-told : (plant : Plant) (i value : ℕ) (call k : SourceCall) (d : Done) (a : Answer) → call ≡ k → d ≡ doneBy a Change.Nothing → saying plant a ≡ outcomeOf plant (sourceCall plant i value k) → quietly plant d ≡ outcomeOf plant (sourceCall plant i value call)
+source-told plant i value call k d a e f g = source-at plant i value call k d e (tells plant (sourceCall plant i value k) d a f g)
+
+pub cookie-at : (plant : Plant) (i value : ℕ) (call k : CookieCall) (d : Done) → call ≡ k → quietly plant d ≡ outcomeOf plant (cookieCall plant i value k) → quietly plant d ≡ outcomeOf plant (cookieCall plant i value call)
+cookie-at plant i value call k d e f = rw e f
+
+pub cookie-told : (plant : Plant) (i value : ℕ) (call k : CookieCall) (d : Done) (a : Answer) → call ≡ k → d ≡ doneBy a Change.Nothing → saying plant a ≡ outcomeOf plant (cookieCall plant i value k) → quietly plant d ≡ outcomeOf plant (cookieCall plant i value call)
+cookie-told plant i value call k d a e f g = cookie-at plant i value call k d e (tells plant (cookieCall plant i value k) d a f g)
+
+module _ (plant : Plant) (call : SourceCall) (sysino value : ℕ) where
+  pub intr-past : plant .sources ≤ sysino → intr plant call sysino value ≡ refused EINVAL
   unfolding intr
   intr-past h = rw (le-ltb sysino (plant .sources) h)
 
-  module _ (h : sysino < plant .sources) where
-    pub intr-at : (d : Done) (k : ℕ) → function ≡ k → quietly plant d ≡ outcomeOf plant (bySysino plant k sysino value) → quietly plant d ≡ outcomeOf plant (intr plant function sysino value)
-    unfolding intr bySysino
-    intr-at d k e f = rw (lt-ltb sysino (plant .sources) h, e) f
+  pub intr-there : (d : Done) → sysino < plant .sources → quietly plant d ≡ outcomeOf plant (sourceCall plant sysino value call) → quietly plant d ≡ outcomeOf plant (intr plant call sysino value)
+  unfolding intr
+  intr-there d h f = rw (lt-ltb sysino (plant .sources) h) f
 
-    pub intr-told : (d : Done) (a : Answer) (k : ℕ) → function ≡ k → d ≡ doneBy a Change.Nothing → saying plant a ≡ outcomeOf plant (bySysino plant k sysino value) → quietly plant d ≡ outcomeOf plant (intr plant function sysino value)
-    intr-told d a k e f g = intr-at d k e (tells plant (bySysino plant k sysino value) d a f g)
-
-    pub intr-other : (function ≡ 0xa1 → ⊥) → (function ≡ 0xa2 → ⊥) → (function ≡ 0xa3 → ⊥) → (function ≡ 0xa4 → ⊥) → (function ≡ 0xa5 → ⊥) → (function ≡ 0xa6 → ⊥) → intr plant function sysino value ≡ refused EBADTRAP
-    unfolding intr bySysino
-    intr-other a b c d e f = rw (lt-ltb sysino (plant .sources) h, ne-eqb _ _ a, ne-eqb _ _ b, ne-eqb _ _ c, ne-eqb _ _ d, ne-eqb _ _ e, ne-eqb _ _ f)
-
-module _ (plant : Plant) (function devhandle devino value : ℕ) (s : Found) (p : s ≡ sysinoOf plant devhandle devino) where
-  pub vintr-missing : s ≡ Found.Nothing → vintr plant function devhandle devino value ≡ refused EINVAL
+module _ (plant : Plant) (call : CookieCall) (devhandle devino value : ℕ) (s : Found) (p : s ≡ sysinoOf plant devhandle devino) where
+  pub vintr-missing : s ≡ Found.Nothing → vintr plant call devhandle devino value ≡ refused EINVAL
   unfolding vintr
   vintr-missing e = rw (← p, e)
 
   module _ (i : ℕ) (q : s ≡ Found.At i) where
-    pub vintr-cookieless : not (sourceAt plant i .cookies) ≡ true → vintr plant function devhandle devino value ≡ refused ENOTSUPPORTED
+    pub vintr-cookieless : not (sourceAt plant i .cookies) ≡ true → vintr plant call devhandle devino value ≡ refused ENOTSUPPORTED
     unfolding vintr
     vintr-cookieless h = rw (← p, q, not-true (sourceAt plant i .cookies) h)
 
-    module _ (h : not (sourceAt plant i .cookies) ≡ false) where
-      pub vintr-at : (d : Done) (k : ℕ) → function ≡ k → quietly plant d ≡ outcomeOf plant (byName plant k i value) → quietly plant d ≡ outcomeOf plant (vintr plant function devhandle devino value)
-      unfolding vintr byName
-      vintr-at d k e f = rw (← p, q, not-false (sourceAt plant i .cookies) h, e) f
-
-      pub vintr-told : (d : Done) (a : Answer) (k : ℕ) → function ≡ k → d ≡ doneBy a Change.Nothing → saying plant a ≡ outcomeOf plant (byName plant k i value) → quietly plant d ≡ outcomeOf plant (vintr plant function devhandle devino value)
-      vintr-told d a k e f g = vintr-at d k e (tells plant (byName plant k i value) d a f g)
-
-      pub vintr-other : (function ≡ 0xa7 → ⊥) → (function ≡ 0xa8 → ⊥) → (function ≡ 0xa9 → ⊥) → (function ≡ 0xaa → ⊥) → (function ≡ 0xab → ⊥) → (function ≡ 0xac → ⊥) → (function ≡ 0xad → ⊥) → (function ≡ 0xae → ⊥) → vintr plant function devhandle devino value ≡ refused EBADTRAP
-      unfolding vintr byName
-      vintr-other a b c d e f g j = rw (← p, q, not-false (sourceAt plant i .cookies) h, ne-eqb _ _ a, ne-eqb _ _ b, ne-eqb _ _ c, ne-eqb _ _ d, ne-eqb _ _ e, ne-eqb _ _ f, ne-eqb _ _ g, ne-eqb _ _ j)
+    pub vintr-there : (d : Done) → not (sourceAt plant i .cookies) ≡ false → quietly plant d ≡ outcomeOf plant (cookieCall plant i value call) → quietly plant d ≡ outcomeOf plant (vintr plant call devhandle devino value)
+    unfolding vintr
+    vintr-there d h f = rw (← p, q, not-false (sourceAt plant i .cookies) h) f

@@ -4,10 +4,12 @@ use plants::Done;
 use plants::done_by;
 use plants::told;
 use rules::Answer;
+use rules::CookieCall;
 use rules::Found;
 use rules::Plant;
 use rules::Refusal;
 use rules::Source;
+use rules::SourceCall;
 use rules::Target;
 ghost use mathlib.Core.Path.{_≡_};
 ghost use mathlib.Core.Bool.{_&&_};
@@ -18,7 +20,7 @@ ghost use Rattle.rules.specs.Image.{named};
 ghost use Rattle.rules.specs.Kept.{withTarget};
 ghost use Rattle.rules.specs.Rulings.{outcomeOf};
 ghost use Rattle.rules.specs.Sources.{get-enabled, set-enabled, get-state, set-state, get-target, set-target, get-cookie, set-cookie};
-ghost use Rattle.rules.specs.Sources.{sysinoOf, targetNumber, intr-devino2sysino, intr, vintr};
+ghost use Rattle.rules.specs.Sources.{sysinoOf, targetNumber, intr-devino2sysino, sourceCall, cookieCall, intr, vintr};
 ghost use Rattle.plants.specs.Done.{quietly, saying};
 
 fn is_named(s: Source, devhandle: u64, devino: u64) -> bool
@@ -188,31 +190,49 @@ pub fn intr_devino2sysino(plant: Plant, devhandle: u64, devino: u64) -> Answer
     }
 }
 
+// What a call asks of source i.
+fn source_call(plant: Plant, i: usize, value: u64, call: SourceCall) -> Done
+    requires { ⌜ i < sourceLimit ⌝ }
+    ensures { λ r. ⌜ quietly plant r ≡ outcomeOf plant (sourceCall plant i value call) ⌝ }
+{
+    match call {
+        SourceCall::GetEnabled => told(get_enabled(plant, i)),
+        SourceCall::SetEnabled => set_enabled(plant, i, value),
+        SourceCall::GetState => told(get_state(plant, i)),
+        SourceCall::SetState => set_state(plant, i, value),
+        SourceCall::GetTarget => told(get_target(plant, i)),
+        SourceCall::SetTarget => set_target(plant, i, value),
+    }
+}
+
+fn cookie_call(plant: Plant, i: usize, value: u64, call: CookieCall) -> Done
+    requires { ⌜ i < sourceLimit ⌝ }
+    ensures { λ r. ⌜ quietly plant r ≡ outcomeOf plant (cookieCall plant i value call) ⌝ }
+{
+    match call {
+        CookieCall::GetCookie => told(get_cookie(plant, i)),
+        CookieCall::SetCookie => set_cookie(plant, i, value),
+        CookieCall::Source(other) => source_call(plant, i, value, other),
+    }
+}
+
 // 0xa1 to 0xa6, by sysino.
-pub fn intr(plant: Plant, function: u64, sysino: u64, value: u64) -> Done
+pub fn intr(plant: Plant, call: SourceCall, sysino: u64, value: u64) -> Done
     requires { ⌜ plant .sources ≤ sourceLimit ⌝ }
-    ensures { λ r. ⌜ quietly plant r ≡ outcomeOf plant (intr plant function sysino value) ⌝ }
+    ensures { λ r. ⌜ quietly plant r ≡ outcomeOf plant (intr plant call sysino value) ⌝ }
 {
     let count = plant.sources as u64;
     if count <= sysino {
         return told(Answer::Refused(Refusal::EINVAL));
     }
     let i = sysino as usize;
-    match function {
-        0xa1 => told(get_enabled(plant, i)),
-        0xa2 => set_enabled(plant, i, value),
-        0xa3 => told(get_state(plant, i)),
-        0xa4 => set_state(plant, i, value),
-        0xa5 => told(get_target(plant, i)),
-        0xa6 => set_target(plant, i, value),
-        _ => told(Answer::Refused(Refusal::EBADTRAP)),
-    }
+    source_call(plant, i, value, call)
 }
 
 // 0xa7 to 0xae, by devhandle and devino.
-pub fn vintr(plant: Plant, function: u64, devhandle: u64, devino: u64, value: u64) -> Done
+pub fn vintr(plant: Plant, call: CookieCall, devhandle: u64, devino: u64, value: u64) -> Done
     requires { ⌜ plant .sources ≤ sourceLimit ⌝ }
-    ensures { λ r. ⌜ quietly plant r ≡ outcomeOf plant (vintr plant function devhandle devino value) ⌝ }
+    ensures { λ r. ⌜ quietly plant r ≡ outcomeOf plant (vintr plant call devhandle devino value) ⌝ }
 {
     let found = sysino_of(plant, devhandle, devino);
     let Found::At(i) = found else {
@@ -222,15 +242,5 @@ pub fn vintr(plant: Plant, function: u64, devhandle: u64, devino: u64, value: u6
     if !s.cookies {
         return told(Answer::Refused(Refusal::ENOTSUPPORTED));
     }
-    match function {
-        0xa7 => told(get_cookie(plant, i)),
-        0xa8 => set_cookie(plant, i, value),
-        0xa9 => told(get_enabled(plant, i)),
-        0xaa => set_enabled(plant, i, value),
-        0xab => told(get_state(plant, i)),
-        0xac => set_state(plant, i, value),
-        0xad => told(get_target(plant, i)),
-        0xae => set_target(plant, i, value),
-        _ => told(Answer::Refused(Refusal::EBADTRAP)),
-    }
+    cookie_call(plant, i, value, call)
 }

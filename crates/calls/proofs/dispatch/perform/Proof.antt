@@ -3,7 +3,6 @@ use borrow.Author.Needs.{needs}
 use mathlib.Core.Path.{refl}
 use Rattle.rules.specs.declared.Function.{Function}
 use Rattle.rules.specs.Calls.{perform}
-use Rattle.calls.specs.Dispatch.{sysinoRule}
 use Rattle.plants.proofs.OutcomeLaws.{quiet, quiet-told}
 use Rattle.calls.proofs.DispatchLaws.{perform-as}
 use Rattle.calls.proofs.dispatch.perform.Statement.{statement}
@@ -99,11 +98,20 @@ mmustat-info-requires c κs = search needs
 told-requires-5 : tie.Need-told-requires-5
 told-requires-5 c κs = search needs
 
+enum-told-14 : tie.Need-enum-told-14
+enum-told-14 c = search needs
+
+intr-devino2sysino-requires : tie.Need-intr-devino2sysino-requires
+intr-devino2sysino-requires c κs = search needs
+
+told-requires-6 : tie.Need-told-requires-6
+told-requires-6 c κs = search needs
+
 enum-known-f : tie.Need-enum-known-f
 enum-known-f c = search needs
 
-sysino-call-requires : tie.Need-sysino-call-requires
-sysino-call-requires c κs = search needs
+intr-requires : tie.Need-intr-requires
+intr-requires c κs = search needs
 
 enum-known-f-2 : tie.Need-enum-known-f-2
 enum-known-f-2 c = search needs
@@ -176,12 +184,16 @@ unfolding perform
 returns-13 c = perform-as _ _ _ _ _ _ _ _ Function.MmustatInfo (c .before .before .enum-told13 .given .1) (quiet-told _ _ _ _ _ _ (c .told5 .ensures) (c .before .mmustat-info .ensures))
 
 returns-14 : tie.Need-returns-14
-unfolding perform sysinoRule
-returns-14 c = perform-as _ _ _ _ _ _ _ _ _ (c .before .before .f .given .1) (quiet _ _ _ _ _ (c .sysino-call .ensures))
+unfolding perform
+returns-14 c = perform-as _ _ _ _ _ _ _ _ Function.IntrDevino2sysino (c .before .before .enum-told14 .given .1) (quiet-told _ _ _ _ _ _ (c .told6 .ensures) (c .before .intr-devino2sysino .ensures))
 
 returns-15 : tie.Need-returns-15
 unfolding perform
-returns-15 c = perform-as _ _ _ _ _ _ _ _ _ (c .before .before .f2 .given .1) (quiet _ _ _ _ _ (c .vintr .ensures))
+returns-15 c = perform-as _ _ _ _ _ _ _ _ _ (c .before .before .f .given .1) (quiet _ _ _ _ _ (c .intr .ensures))
+
+returns-16 : tie.Need-returns-16
+unfolding perform
+returns-16 c = perform-as _ _ _ _ _ _ _ _ _ (c .before .before .f2 .given .1) (quiet _ _ _ _ _ (c .vintr .ensures))
 
 pub perform-spec : {M : Type 1} → statement M
 perform-spec =
@@ -217,8 +229,11 @@ perform-spec =
     enum-told-13
     mmustat-info-requires
     told-requires-5
+    enum-told-14
+    intr-devino2sysino-requires
+    told-requires-6
     enum-known-f
-    sysino-call-requires
+    intr-requires
     enum-known-f-2
     vintr-requires
     returns
@@ -239,4 +254,5 @@ perform-spec =
     returns-12
     returns-13
     returns-14
-    returns-15)
+    returns-15
+    returns-16)

@@ -86,6 +86,12 @@ sysino-open-requires c κs = search needs
 enum-told-15 : tie.Need-enum-told-15
 enum-told-15 c = search needs
 
+sysino-open-requires-2 : tie.Need-sysino-open-requires-2
+sysino-open-requires-2 c κs = search needs
+
+enum-told-16 : tie.Need-enum-told-16
+enum-told-16 c = search needs
+
 cookie-open-requires : tie.Need-cookie-open-requires
 cookie-open-requires c κs = search needs
 
@@ -142,10 +148,16 @@ unfolding admitted
 returns-13 c = admitted-as _ _ Function.MmustatInfo _ (c .before .enum-told13 .given .1) (c .group-open10 .ensures ∙ group-told _ _)
 
 returns-14 : tie.Need-returns-14
-returns-14 c = admitted-as _ _ _ _ (c .before .enum-told14 .given .1) (c .sysino-open .ensures ∙ sysino-told _ _)
+unfolding admitted
+returns-14 c = admitted-as _ _ Function.IntrDevino2sysino _ (c .before .enum-told14 .given .1) (c .sysino-open .ensures ∙ sysino-told _ _)
 
 returns-15 : tie.Need-returns-15
-returns-15 c = admitted-as _ _ _ _ (c .before .enum-told15 .given .1) (c .cookie-open .ensures ∙ cookie-told _ _)
+unfolding admitted
+returns-15 c = admitted-as _ _ (Function.Sysino _) _ (c .before .enum-told15 .given .1) (c .sysino-open2 .ensures ∙ sysino-told _ _)
+
+returns-16 : tie.Need-returns-16
+unfolding admitted
+returns-16 c = admitted-as _ _ (Function.Cookie _) _ (c .before .enum-told16 .given .1) (c .cookie-open .ensures ∙ cookie-told _ _)
 
 pub admission-spec : {M : Type 1} → statement M
 admission-spec =
@@ -177,6 +189,8 @@ admission-spec =
     enum-told-14
     sysino-open-requires
     enum-told-15
+    sysino-open-requires-2
+    enum-told-16
     cookie-open-requires
     returns
     returns-2
@@ -192,4 +206,5 @@ admission-spec =
     returns-12
     returns-13
     returns-14
-    returns-15)
+    returns-15
+    returns-16)

@@ -1,9 +1,16 @@
 -- `calls::functions::fast_function` meets its contract: an arm each.
+use borrow.Author.Needs.{needs}
 use mathlib.Core.Path.{refl}
 use Rattle.rules.specs.Calls.{fastFunction}
-use Rattle.calls.proofs.FunctionLaws.{arm, fast-sysino, fast-cookie, fast-below, fast-above}
+use Rattle.calls.proofs.FunctionLaws.{arm, fast-below, fast-above}
 use Rattle.calls.proofs.functions.fast_function.Statement.{statement}
 use Rattle.calls.proofs.functions.fast_function.Tie as tie
+
+sysino-function-requires : tie.Need-sysino-function-requires
+sysino-function-requires c κs = search needs
+
+cookie-function-requires : tie.Need-cookie-function-requires
+cookie-function-requires c κs = search needs
 
 returns : tie.Need-returns
 unfolding fastFunction
@@ -46,10 +53,10 @@ unfolding fastFunction
 returns-10 c = arm fastFunction _ 0x103 _ (c .match .keys10) refl
 
 returns-11 : tie.Need-returns-11
-returns-11 c = fast-sysino _ (c .before .if1 .left) (c .if2 .taken)
+returns-11 c = search needs
 
 returns-12 : tie.Need-returns-12
-returns-12 c = fast-cookie _ (c .before .if2 .left) (c .if3 .taken)
+returns-12 c = search needs
 
 returns-13 : tie.Need-returns-13
 returns-13 c = fast-below _ (c .before .match .rest) (c .if1 .taken)
@@ -61,6 +68,8 @@ pub fast-function-spec : {M : Type 1} → statement M
 fast-function-spec =
     tie.close
     (tie.spec
+    sysino-function-requires
+    cookie-function-requires
     returns
     returns-2
     returns-3
