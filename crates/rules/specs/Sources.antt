@@ -30,24 +30,35 @@ abbrev pub targetSet : Target → Bool
 targetSet Target.Unset = false
 targetSet (Target.Cpu c) = true
 
+-- the values that a setting has, and the rule on tables asks for: "enabled (0 or 1), state (idle 0, received 1, delivered 2)"
+abbrev pub enabledValue : ℕ → Bool
+enabledValue value = leb value 1
+
+abbrev pub stateValue : ℕ → Bool
+stateValue value = leb value 2
+
+-- "Cookie 1 to 2,047 EINVAL": one that is not 0 is above
+abbrev pub cookieValue : ℕ → Bool
+cookieValue value = ltb 2047 value
+
 module _ (plant : Plant) (i : ℕ) where
-  -- "get and set enabled (0 or 1)"; "Under 2.0, enabling with cookie 0 EINVAL."
+  -- "get and set enabled"; "Under 2.0, enabling with cookie 0 EINVAL."
   unfoldable pub get-enabled : Ruling Outcome
   get-enabled = says (One (sourceAt plant i .enabled)) plant
 
   unfoldable pub set-enabled : ℕ → Ruling Outcome
   set-enabled value =
-      leb value 1 or-refuse EINVAL then
+      enabledValue value or-refuse EINVAL then
       not (eqb value 1 && (eqb (plant .versions .interrupt) 2 && eqb (sourceAt plant i .cookie) 0)) or-refuse EINVAL then
       done (withSource plant i (withEnabled (sourceAt plant i) value))
 
-  -- "state (idle 0, received 1, delivered 2)"
+  -- "state"
   unfoldable pub get-state : Ruling Outcome
   get-state = says (One (sourceAt plant i .state)) plant
 
   unfoldable pub set-state : ℕ → Ruling Outcome
   set-state value =
-      leb value 2 or-refuse EINVAL then
+      stateValue value or-refuse EINVAL then
       done (withSource plant i (withState (sourceAt plant i) value))
 
   -- "target": "no such cpuid ENOCPU"
@@ -65,7 +76,7 @@ module _ (plant : Plant) (i : ℕ) where
 
   unfoldable pub set-cookie : ℕ → Ruling Outcome
   set-cookie value =
-      (eqb value 0 || ltb 2047 value) or-refuse EINVAL then
+      (eqb value 0 || cookieValue value) or-refuse EINVAL then
       if eqb value 0
       then done (withSource plant i (withEnabled (withCookie (sourceAt plant i) 0) 0))
       else done (withSource plant i (withCookie (sourceAt plant i) value))

@@ -3,15 +3,17 @@ use mathlib.Core.Bool.{Bool, true, false, _&&_, _||_, not}
 use Prim.Native.Nat.{ℕ, _/_, _%_}
 use lib.Dec.{leb, ltb, eqb}
 use lib.ListN.{take}
-use Rattle.rules.specs.Types.{Extent, Extents, Ring, QueueRecord, Tsb, TsbList, Cpu, Target, Source, Versions, Plant, Guest, Tables}
+use Rattle.rules.specs.Types.{Group, Extent, Extents, Ring, QueueRecord, Tsb, TsbList, Cpu, Target, Source, Versions, Plant, Guest, Tables}
 use Rattle.rules.specs.Limits.{guestLimit, cpuLimit, extentLimit, sourceLimit, queueLimit, tsbLimit, devhandles, devinos}
 use Rattle.rules.specs.Scan.{allBelow}
 use Rattle.rules.specs.Kept.{guestAt, extentAt, cpuAt, queueAt, tsbAt, sourceAt}
 use Rattle.rules.specs.Real.{valid}
 use Rattle.rules.specs.Image.{extentRight, ascend, pagesShared, sourceTwice}
+use Rattle.rules.specs.Versions.{majorOf, newest}
 use Rattle.rules.specs.Queues.{newRing}
 use Rattle.rules.specs.Tsb.{judgedTsb}
 use Rattle.rules.specs.Memory.{newStatistics}
+use Rattle.rules.specs.Sources.{enabledValue, stateValue, cookieValue}
 use Rattle.rules.specs.Rulings.{accepts, if_then_else_}
 
 -- a list of at most `limit` places, the first `count` of them right and the others blank
@@ -85,9 +87,12 @@ cpuRight valid cpu =
     allBelow queueLimit (λ q. recordRight valid (queueAt cpu q))
     && (tsbsRight valid (cpu .ctx0) && (tsbsRight valid (cpu .ctxnon0) && accepts (newStatistics valid (cpu .statistics))))
 
--- "versions as negotiable"
+-- "versions as negotiable": the major of each group 0, where none is, or one that it has
+abbrev pub majorRight : Versions → Group → Bool
+majorRight v group = leb (majorOf v group) (newest group)
+
 unfoldable pub versionsRight : Versions → Bool
-versionsRight v = (leb (v .sun4v) 1 && leb (v .core) 1) && (leb (v .interrupt) 2 && leb (v .statistics) 1)
+versionsRight v = (majorRight v Group.Sun4v && majorRight v Group.Core) && (majorRight v Group.Interrupt && majorRight v Group.Statistics)
 
 -- "target unset or a cpuid of the guest"
 abbrev pub targetRight : ℕ → Target → Bool
@@ -96,7 +101,7 @@ targetRight cpus (Target.Cpu c) = ltb c cpus
 
 -- "a cookie 0, or above 2,047 with group 2 at 2.0 and support"
 unfoldable pub cookieRight : ℕ → Source → Bool
-cookieRight major s = eqb (s .cookie) 0 || (ltb 2047 (s .cookie) && (eqb major 2 && s .cookies))
+cookieRight major s = eqb (s .cookie) 0 || (cookieValue (s .cookie) && (eqb major 2 && s .cookies))
 
 -- "a source is disabled while group 2 is not negotiated, and under 2.0 with cookie 0"
 unfoldable pub enabledRight : ℕ → Source → Bool
@@ -106,7 +111,7 @@ enabledRight major s = eqb (s .enabled) 0 || not (eqb major 0 || (eqb major 2 &&
 unfoldable pub sourceRight : Plant → Source → Bool
 sourceRight plant s =
     (ltb (s .devhandle) devhandles && ltb (s .devino) devinos)
-    && ((leb (s .enabled) 1 && leb (s .state) 2)
+    && ((enabledValue (s .enabled) && stateValue (s .state))
     && (targetRight (plant .cpus) (s .target)
     && (cookieRight (plant .versions .interrupt) s && enabledRight (plant .versions .interrupt) s)))
 
