@@ -1,4 +1,5 @@
 pub mod AcceptedCalls
+pub mod Blank
 pub mod Computing
 pub mod EntryCases
 pub mod Examples
