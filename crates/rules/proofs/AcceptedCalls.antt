@@ -13,22 +13,10 @@ use Rattle.rules.specs.Image.{load}
 use Rattle.rules.specs.Host.{HostOutcome, plantRule}
 use Rattle.rules.specs.Session.{output}
 use Rattle.rules.proofs.Computing.{computing}
-use Rattle.rules.proofs.Examples.{start, next, call}
+pub use Rattle.rules.proofs.Worked.{callBy, headBy, storing, loading}
+use Rattle.rules.proofs.Worked.{call}
+use Rattle.rules.proofs.Examples.{start, next}
 use Rattle.rules.proofs.WorkedText.{bytesOf, workedInput, workedOutput, worked-session-prints}
-
--- events: a call and a head write by any cpu of guest 0, a store and a load
-abbrev pub callBy : ℕ → ℕ → ℕ → ℕ → ℕ → Event
-callBy cpu function a b c =
-    Event.Call (record { guest = 0; cpu = cpu; trap = 0x80; function = function; arg0 = a; arg1 = b; arg2 = c; arg3 = 0; arg4 = 0 })
-
-abbrev pub headBy : ℕ → ℕ → ℕ → Event
-headBy cpu queue value = Event.Head (record { guest = 0; cpu = cpu; queue = queue; value = value })
-
-abbrev pub storing : ℕ → ℕ → ℕ → Event
-storing guest address value = Event.Store (record { guest = guest; address = address; value = value })
-
-abbrev pub loading : ℕ → ℕ → Event
-loading guest address = Event.Load (record { guest = guest; address = address })
 
 -- an event and the five numbers that it answers
 pub record Step : Type 0 where

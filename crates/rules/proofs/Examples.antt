@@ -1,48 +1,19 @@
 -- The paper's examples that are marked P, about the host's rule itself: an image, the groups negotiated by calls, then the case.
 use mathlib.Core.Path.{_≡_, refl}
-use mathlib.Core.Bool.{true}
 use mathlib.Core.List.{List, [], _∷_, _++_}
 use Prim.Native.Nat.{ℕ, _-_, _^_}
-use lib.ListN.{replicate}
-use Rattle.rules.specs.Types.{Target, Guest, Tables, Event, Done}
-use Rattle.rules.specs.Kept.{blankExtent, blankCpu, blankSource, blankGuest, noVersions}
+use Rattle.rules.specs.Types.{Event, Done}
 use Rattle.rules.specs.Statuses.{numbers}
 use Rattle.rules.specs.Image.{load}
 use Rattle.rules.specs.Host.{HostOutcome, hostEvent}
 use Rattle.rules.specs.Session.{begin}
 use Rattle.rules.proofs.Computing.{computing}
-
--- the image of the session's first line
-abbrev pub workedImage : List ℕ
-workedImage =
-    0x12 ∷ 0x22 ∷ 0x10 ∷ 0x00 ∷ 0x00 ∷ 0x00 ∷ 0x00 ∷ 0x01 ∷ 0x00 ∷ 0x00 ∷ 0x00 ∷ 0x00 ∷ 0x10 ∷ 0x00 ∷ 0xb1
-    ∷ 0x21 ∷ 0x00 ∷ 0x00 ∷ 0x00 ∷ 0x00 ∷ 0x00 ∷ 0x10 ∷ 0x00 ∷ 0x10 ∷ 0x00 ∷ 0x02 ∷ 0x00 ∷ 0x0b ∷ []
-
--- a guest of the image: its cpus, one page at real 0 on a host page, and one source of devino 5 that supports cookies
-abbrev pub workedGuest : ℕ → ℕ → ℕ → Guest
-workedGuest cpus host devhandle = record {
-  extents = record { count = 1; list = record { real = 0; count = 1; host = host } ∷ replicate 3 blankExtent };
-  plant = record {
-    versions = noVersions;
-    cpus = cpus;
-    cpu = replicate 8 blankCpu;
-    sources = 1;
-    source = record { devhandle = devhandle; devino = 5; cookies = true; enabled = 0; state = 0; target = Target.Unset; cookie = 0 } ∷ replicate 15 blankSource;
-  };
-}
-
-abbrev pub workedTables : Tables
-workedTables = record { guests = 2; guest = workedGuest 2 0 0x100 ∷ workedGuest 1 1 0x200 ∷ blankGuest ∷ blankGuest ∷ [] }
+pub use Rattle.rules.proofs.Worked.{workedImage, workedGuest, workedTables, call}
 
 -- the worked image loads to these tables
 pub worked-image : load workedImage ≡ record { answer = Done; tables = workedTables }
 unfolding computing
 worked-image = refl
-
--- a call of guest 0, cpu 0
-abbrev pub call : ℕ → ℕ → ℕ → ℕ → ℕ → Event
-call trap function a b c =
-    Event.Call (record { guest = 0; cpu = 0; trap = trap; function = function; arg0 = a; arg1 = b; arg2 = c; arg3 = 0; arg4 = 0 })
 
 -- "groups negotiated, 2.0"
 abbrev pub negotiated : List Event
@@ -65,6 +36,10 @@ ring base n = call 0x80 0x14 0x3c base n
 
 abbrev pub cookie : ℕ → ℕ → Event
 cookie devhandle value = call 0x80 0xa8 devhandle 5 value
+
+-- each of 0xa7 to 0xae with a handle of devino 5, and the value 1
+abbrev pub named : ℕ → ℕ → Event
+named function devhandle = call 0x80 function devhandle 5 1
 
 abbrev pub statistics : ℕ → Event
 statistics address = call 0x80 0x102 address 0 0
@@ -96,6 +71,22 @@ cases =
     ∷ gives (cookie 0x100 2048) 0
     ∷ gives (cookie 0x200 2048) 6
     ∷ gives (cookie 0x300 2048) 6
+    ∷ gives (named 0xa7 0x200) 6
+    ∷ gives (named 0xa8 0x200) 6
+    ∷ gives (named 0xa9 0x200) 6
+    ∷ gives (named 0xaa 0x200) 6
+    ∷ gives (named 0xab 0x200) 6
+    ∷ gives (named 0xac 0x200) 6
+    ∷ gives (named 0xad 0x200) 6
+    ∷ gives (named 0xae 0x200) 6
+    ∷ gives (named 0xa7 0x300) 6
+    ∷ gives (named 0xa8 0x300) 6
+    ∷ gives (named 0xa9 0x300) 6
+    ∷ gives (named 0xaa 0x300) 6
+    ∷ gives (named 0xab 0x300) 6
+    ∷ gives (named 0xac 0x300) 6
+    ∷ gives (named 0xad 0x300) 6
+    ∷ gives (named 0xae 0x300) 6
     ∷ gives (call 0x80 0x13 0 0 0) 7
     ∷ gives (call 0x80 0xa0 0x100 5 0) 13
     ∷ gives (call 0x80 0x31 0 0 0) 6
@@ -104,16 +95,23 @@ cases =
     ∷ after-these (statistics 0x40 ∷ statistics 0x41 ∷ []) (call 0x80 0x103 0 0 0) 0
     ∷ []
 
--- the five numbers that a case's event answers
-unfoldable pub answers : Case → List ℕ
-answers c = numbers (next (after start (negotiated ++ c .before)) (c .event) .answer)
+-- the host of the cases: group 0 is negotiated too
+abbrev pub ready : HostOutcome
+ready = after start (call 0xff 0 0 1 0 ∷ negotiated)
+
+-- the five numbers that each case's event answers; and its status and four zeros
+unfoldable pub answers : HostOutcome → List Case → List (List ℕ)
+answers o [] = []
+answers o (c ∷ cs) = numbers (next (after o (c .before)) (c .event) .answer) ∷ answers o cs
+
+unfoldable pub expected : List Case → List (List ℕ)
+expected [] = []
+expected (c ∷ cs) = (c .status ∷ 0 ∷ 0 ∷ 0 ∷ 0 ∷ []) ∷ expected cs
 
 -- the claim: each case of a list answers its status and four zeros
 abbrev pub Hold : List Case → Type 0
-Hold [] = Unit {0}
-Hold (c ∷ cs) = (answers c ≡ c .status ∷ 0 ∷ 0 ∷ 0 ∷ 0 ∷ []) × Hold cs
+Hold cs = answers ready cs ≡ expected cs
 
 pub examples : Hold cases
-unfolding computing next after answers
-examples =
-    (refl, (refl, (refl, (refl, (refl, (refl, (refl, (refl, (refl, (refl, (refl, (refl, (refl, (refl, (refl, (refl, (refl, tt)))))))))))))))))
+unfolding computing next after answers expected
+examples = refl

@@ -5,4 +5,5 @@ pub mod EntryCases
 pub mod Examples
 pub mod Scan
 pub mod Tests
+pub mod Worked
 pub mod WorkedText
