@@ -1,9 +1,13 @@
 pub mod AcceptedCalls
 pub mod Blank
+pub mod Changes
 pub mod Computing
 pub mod EntryCases
 pub mod Examples
+pub mod MondoCases
+pub mod QueueCases
 pub mod Scan
+pub mod Sessions
 pub mod Tests
 pub mod Worked
 pub mod WorkedText
