@@ -4,10 +4,12 @@ pub mod Changes
 pub mod Computing
 pub mod EntryCases
 pub mod Examples
+pub mod MemoryCases
 pub mod MondoCases
 pub mod QueueCases
 pub mod Scan
 pub mod Sessions
 pub mod Tests
+pub mod TsbCases
 pub mod Worked
 pub mod WorkedText
