@@ -1,5 +1,6 @@
 pub mod AcceptedCalls
 pub mod Blank
+pub mod CallCases
 pub mod Changes
 pub mod Computing
 pub mod EntryCases
@@ -9,6 +10,7 @@ pub mod MondoCases
 pub mod QueueCases
 pub mod Scan
 pub mod Sessions
+pub mod SourceCases
 pub mod Tests
 pub mod TsbCases
 pub mod Worked
