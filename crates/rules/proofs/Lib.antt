@@ -5,6 +5,7 @@ pub mod Changes
 pub mod Computing
 pub mod EntryCases
 pub mod Examples
+pub mod ImageCases
 pub mod MemoryCases
 pub mod MondoCases
 pub mod QueueCases
@@ -12,6 +13,7 @@ pub mod Scan
 pub mod Sessions
 pub mod SourceCases
 pub mod Tests
+pub mod TextCases
 pub mod TsbCases
 pub mod Worked
 pub mod WorkedText

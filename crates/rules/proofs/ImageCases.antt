@@ -1,0 +1,168 @@
+-- "The partition image": images that are refused and accepted, and what is loaded.
+use mathlib.Core.Path.{_≡_, refl}
+use mathlib.Core.Bool.{true, false}
+use mathlib.Core.List.{List, [], _∷_}
+use Prim.Native.Nat.{ℕ}
+use Prim.Native.String.{String, _++_}
+use lib.ListN.{replicate, length}
+use Rattle.rules.specs.Types.{Extent, Cpu, Target, Guest, Tables}
+use Rattle.rules.specs.Kept.{blankExtent, blankCpu, blankSource, blankGuest, noVersions, guestAt, cpuAt}
+use Rattle.rules.proofs.Computing.{computing}
+use Rattle.rules.proofs.WorkedText.{bytesOf}
+use Rattle.rules.proofs.Changes.{comparing, guests, majors, word}
+use Rattle.rules.proofs.Sessions.{Exchange, _prints_, _prints_setting_, empty, given, after, heard, Cases}
+
+-- what each line of a list prints, on a session with no guest; and the same text for each
+unfoldable pub texts : List String → List (List ℕ)
+texts [] = []
+texts (line ∷ lines) = given (empty 0) line .text ∷ texts lines
+
+unfoldable pub each-prints : String → List String → List (List ℕ)
+each-prints text [] = []
+each-prints text (line ∷ lines) = bytesOf text ∷ each-prints text lines
+
+-- "missing bits 110 at once"
+abbrev pub short : List String
+short =
+    "image"
+    ∷ "image 11"
+    -- behind the cpus and the extents; behind the extents; in the extent; in the source
+    ∷ "image 11 12"
+    ∷ "image 11 120 0"
+    ∷ "image 11 120 0000000 0001 00"
+    ∷ "image 11 121 0000000 0001 0000 0000100 0"
+    -- the second guest's counts, and its extent
+    ∷ "image 12 120 0000000 0001 0000"
+    ∷ "image 12 120 0000000 0001 0000 120 0000000 0001 00"
+    -- before the rules on what was read: an extent of no page, and the source is missing
+    ∷ "image 11 121 0000000 0000 0000 00"
+    ∷ []
+
+abbrev pub wrong : List String
+wrong =
+    -- "a header or count outside its limits answers 111 at once", whatever is missing behind it: edition 0 and 2, guests 0 and 5
+    "image 01"
+    ∷ "image 21"
+    ∷ "image 10"
+    ∷ "image 15"
+    -- cpus 0 and 9, extents 0 and 5, sources 17
+    ∷ "image 11 00"
+    ∷ "image 11 90"
+    ∷ "image 11 10"
+    ∷ "image 11 1a"
+    ∷ "image 11 131 0"
+    -- "page count at least 1": the first and the last extent
+    ∷ "image 11 120 0000000 0000 0000"
+    ∷ "image 11 140 0000000 0001 0000 0000001 0000 0001 0"
+    -- "real page plus count at most 2^28; host page plus count at most 65,536"
+    ∷ "image 11 120 fffffff 0002 0000"
+    ∷ "image 11 120 0000000 0002 ffff"
+    -- "a guest's extents ascend in real page without overlap": the second below the first, in it, at the same page; the third
+    ∷ "image 11 140 0000005 0001 0000 0000000 0001 0001 0"
+    ∷ "image 11 140 0000000 0002 0000 0000001 0001 0002 0"
+    ∷ "image 11 140 0000000 0001 0000 0000000 0001 0001 0"
+    ∷ "image 11 160 0000000 0001 0000 0000005 0001 0001 0000001 0001 0002"
+    -- "every run of host pages is compared with every other": in a guest, a run in a run, the last page with the first, the first
+    -- guest with the last
+    ∷ "image 11 140 0000000 0001 0000 0000001 0001 0000 0"
+    ∷ "image 11 140 0000000 0004 0000 0000008 0001 0002 0"
+    ∷ "image 11 140 0000000 0001 0002 0000008 0003 0000 0"
+    ∷ "image 14 120 0000000 0001 0000 120 0000000 0001 0001 120 0000000 0001 0002 120 0000000 0001 0000"
+    -- "no two sources on the host have the same devhandle and devino": in a guest, whatever their support; in two guests
+    ∷ "image 11 122 0000000 0001 0000 0000100 0b 0000100 0a"
+    ∷ "image 12 121 0000000 0001 0000 0000100 0b 122 0000000 0001 0001 0000200 0b 0000100 0b 0"
+    -- "fill bits zero, nothing behind"
+    ∷ "image 11 121 0000000 0001 0000 0000100 0b 1"
+    ∷ "image 11 121 0000000 0001 0000 0000100 0b 8"
+    ∷ "image 11 121 0000000 0001 0000 0000100 0b 0 00"
+    ∷ "image 11 120 0000000 0001 0000 00"
+    ∷ []
+
+-- eight cpus, four extents that touch in real pages and on the host, and 16 sources
+abbrev pub sixteen : String
+sixteen =
+    "image 11 890 0000000 0001 0000 0000001 0001 0001 0000002 0002 0003 0000008 0001 0002"
+    ++ " 0000000 01 0000000 03 0000000 05 0000000 07 0000000 09 0000000 0b 0000000 0d 0000000 0f"
+    ++ " 0000001 01 0000001 03 0000001 05 0000001 07 0000001 09 0000001 0b 0000001 0d 0000001 0f 0"
+
+abbrev pub right : List String
+right =
+    "image 11 120 0000000 0001 0000"
+    ∷ "image 11 121 0000000 0001 0000 0000100 0b 0"
+    -- the limits: four guests; all that one guest can have
+    ∷ "image 14 120 0000000 0001 0000 120 0000000 0001 0001 120 0000000 0001 0002 120 0000000 0001 0003"
+    ∷ sixteen
+    -- the last real page and the last host page
+    ∷ "image 11 120 fffffff 0001 0000"
+    ∷ "image 11 120 0000000 0001 ffff"
+    ∷ []
+
+-- extents and sources as they are loaded
+abbrev pub run : ℕ → ℕ → ℕ → Extent
+run real count host = record { real = real; count = count; host = host }
+
+-- "After loading, all is unset, disabled, idle and 0": two guests, with the last numbers that the fields hold
+abbrev pub lastNumbers : String
+lastNumbers = "image 12 842 0000001 0002 0003 0000003 0001 0001 fffffff ff 0000001 80 120 fffffff 0001 ffff 0"
+
+abbrev pub loadedTables : Tables
+loadedTables = record {
+  guests = 2;
+  guest =
+      record {
+        extents = record { count = 2; list = run 1 2 3 ∷ run 3 1 1 ∷ blankExtent ∷ blankExtent ∷ [] };
+        plant = record {
+          versions = noVersions;
+          cpus = 8;
+          cpu = replicate 8 blankCpu;
+          sources = 2;
+          source =
+              record { devhandle = 0xfff_ffff; devino = 127; cookies = true; enabled = 0; state = 0; target = Target.Unset; cookie = 0 }
+              ∷ record { devhandle = 1; devino = 64; cookies = false; enabled = 0; state = 0; target = Target.Unset; cookie = 0 }
+              ∷ replicate 14 blankSource;
+        };
+      }
+      ∷ record {
+        extents = record { count = 1; list = run 0xfff_ffff 1 0xffff ∷ replicate 3 blankExtent };
+        plant = record { versions = noVersions; cpus = 1; cpu = replicate 8 blankCpu; sources = 0; source = replicate 16 blankSource };
+      }
+      ∷ blankGuest
+      ∷ blankGuest
+      ∷ [];
+}
+
+-- how many places there are for guests, extents, cpus, queue records, descriptors of both lists, and sources
+abbrev pub placesOf : Tables → List ℕ
+placesOf tables =
+    let guest : Guest = guestAt tables 0 in
+    let cpu : Cpu = cpuAt (guest .plant) 0 in
+    length (tables .guest)
+    ∷ length (guest .extents .list)
+    ∷ length (guest .plant .cpu)
+    ∷ length (cpu .queues)
+    ∷ length (cpu .ctx0 .list)
+    ∷ length (cpu .ctxnon0 .list)
+    ∷ length (guest .plant .source)
+    ∷ []
+
+-- "Loading touches no memory"; an image takes the place of the one before, and a refused one leaves "tables with no guest"
+abbrev pub loadedAgain : List Exchange
+loadedAgain =
+    "store 0 8 11" prints "0 0 0 0 0" setting (word 8 0x11 ∷ [])
+    ∷ "image 11 120 0000000 0001 0000" prints "0" setting (majors 0 0 0 0 0 ∷ [])
+    ∷ "load 0 8" prints "0 11 0 0 0"
+    ∷ "image 11 120 0000000 0001 00" prints "6e" setting (guests 0 ∷ [])
+    ∷ "load 0 8" prints "67 0 0 0 0"
+    ∷ []
+
+pub record ImageCases : Type 0 where
+  pub short-ones : texts short ≡ each-prints "6e" short
+  pub wrong-ones : texts wrong ≡ each-prints "6f" wrong
+  pub right-ones : texts right ≡ each-prints "0" right
+  pub loaded : given (empty 0) lastNumbers .session .tables ≡ loadedTables
+  pub places : placesOf loadedTables ≡ 4 ∷ 4 ∷ 8 ∷ 4 ∷ 4 ∷ 4 ∷ 16 ∷ []
+  pub again : Cases 8192 ("image 11 120 0000000 0001 0000" ∷ "call 0 0 ff 0 1 1 0" ∷ []) loadedAgain
+
+pub image-cases : ImageCases
+unfolding computing bytesOf texts each-prints comparing after heard
+image-cases = record { short-ones = refl; wrong-ones = refl; right-ones = refl; loaded = refl; places = refl; again = refl }
