@@ -1,127 +1,320 @@
--- "Before anything": tables that each break one rule of the paper answer 101, and the other refusals at the entry. A rule on
+-- "Entry to every event": tables that each break one rule of the paper answer 101, and the other refusals at the entry. A rule on
 -- tables that is too wide would pass unseen otherwise, since no session leads to such tables.
 use mathlib.Core.Path.{_≡_, refl}
-use mathlib.Core.List.{List, [], _∷_}
-use Prim.Native.Nat.{ℕ}
-use lib.ListN.{replicate}
-use Rattle.rules.specs.Types.{Extent, QueueRecord, Target, Source, Versions, Plant, Guest, Tables, Event}
-use Rattle.rules.specs.Kept.{blankExtent, blankTsb, blankGuest, sourceAt, withVersions, withSource, withQueue, withCtx0, withStatistics, withEnabled, withState, withTarget, withCookie}
+use mathlib.Core.Bool.{Bool, true, false}
+use mathlib.Core.List.{List, [], _∷_, _++_}
+use Prim.Native.Nat.{ℕ, zero, suc, _+_}
+use Prim.Native.String.{String}
+use lib.ListN.{replicate, set}
+use Rattle.rules.specs.Types.{Extent, QueueRecord, Tsb, TsbList, Target, Source, Versions, Plant, Guest, Tables}
+use Rattle.rules.specs.Kept.{blankExtent, blankTsb, blankCpu, blankSource, blankGuest, noVersions, sourceAt, withPlant, withVersions, withSource, withQueue, withCtx0, withCtxnon0, withStatistics, withEnabled, withState, withTarget, withCookie}
 use Rattle.rules.specs.Statuses.{numbers}
 use Rattle.rules.specs.Host.{hostEvent}
 use Rattle.rules.proofs.Computing.{computing}
-use Rattle.rules.proofs.Examples.{workedGuest, workedTables}
-use Rattle.rules.proofs.AcceptedCalls.{callBy, loading}
+use Rattle.rules.proofs.WorkedText.{bytesOf}
+use Rattle.rules.proofs.Worked.{workedGuest, loading}
+use Rattle.rules.proofs.Changes.{comparing}
+use Rattle.rules.proofs.Sessions.{Exchange, _prints_, after, heard, Cases}
 
--- the worked tables with another guest 0, guest 1 and last place
-abbrev pub withGuests : ℕ → Guest → Guest → Guest → Tables
-withGuests guests a b last = record { guests = guests; guest = a ∷ b ∷ blankGuest ∷ last ∷ [] }
-
+-- The right tables that the others are made from, by one change each: two guests of the worked image, on host pages 1 and 2.
 abbrev pub guest0 : Guest
-guest0 = workedGuest 2 0 0x100
+guest0 = workedGuest 2 1 0x100
 
 abbrev pub guest1 : Guest
-guest1 = workedGuest 1 1 0x200
+guest1 = workedGuest 1 2 0x200
 
-abbrev pub withGuest0 : Guest → Tables
-withGuest0 a = withGuests 2 a guest1 blankGuest
+abbrev pub base : Tables
+base = record { guests = 2; guest = guest0 ∷ guest1 ∷ blankGuest ∷ blankGuest ∷ [] }
 
--- guest 0 with another plant, with other versions, with a queue record, with another source, and with other extents
+abbrev pub counting : ℕ → List Guest → Tables
+counting guests list = record { guests = guests; guest = list }
+
+-- another record in a guest's place; guest 0 with another plant, other extents, other versions
+abbrev pub placed : ℕ → Guest → Tables
+placed g guest = record { guests = 2; guest = set (base .guest) g guest }
+
 abbrev pub plants : Plant → Tables
-plants plant = withGuest0 (record { extents = guest0 .extents; plant = plant })
-
-abbrev pub versioned : Versions → Plant
-versioned v = withVersions (guest0 .plant) v
-
-abbrev pub ringed : ℕ → ℕ → ℕ → ℕ → Tables
-ringed base size head tail = plants (withQueue (guest0 .plant) 0 0 (QueueRecord.Set (record { base = base; size = size; head = head; tail = tail })))
-
--- group 2 at a version, and guest 0's source changed
-abbrev pub sourced : ℕ → (Source → Source) → Tables
-sourced interrupt f =
-    let plant : Plant = versioned (record { sun4v = 0; core = 0; interrupt = interrupt; statistics = 0 }) in
-    plants (withSource plant 0 (f (sourceAt plant 0)))
+plants plant = withPlant base 0 plant
 
 abbrev pub extended : ℕ → List Extent → Tables
-extended count list = withGuest0 (record { extents = record { count = count; list = list }; plant = guest0 .plant })
+extended count list = placed 0 (record { extents = record { count = count; list = list }; plant = guest0 .plant })
 
--- one rule each is broken
+abbrev pub run : ℕ → ℕ → ℕ → Extent
+run real count host = record { real = real; count = count; host = host }
+
+abbrev pub at : ℕ → ℕ → ℕ → ℕ → Versions
+at sun4v core interrupt statistics = record { sun4v = sun4v; core = core; interrupt = interrupt; statistics = statistics }
+
+abbrev pub counted : ℕ → ℕ → Plant → Plant
+counted cpus sources plant = record { versions = plant .versions; cpus = cpus; cpu = plant .cpu; sources = sources; source = plant .source }
+
+-- guest 0 with a queue record of a cpu; with a list for context 0, and for the others, and a statistics address
+abbrev pub ringed : ℕ → ℕ → ℕ → ℕ → ℕ → ℕ → Tables
+ringed c q base size head tail =
+    plants (withQueue (guest0 .plant) c q (QueueRecord.Set (record { base = base; size = size; head = head; tail = tail })))
+
+abbrev pub listed : ℕ → List Tsb → TsbList
+listed count list = record { count = count; list = list }
+
+abbrev pub ctx0 : ℕ → TsbList → Tables
+ctx0 c list = plants (withCtx0 (guest0 .plant) c list)
+
+abbrev pub ctxnon0 : ℕ → TsbList → Tables
+ctxnon0 c list = plants (withCtxnon0 (guest0 .plant) c list)
+
+abbrev pub tsb : ℕ → ℕ → ℕ → ℕ → ℕ → ℕ → Tsb
+tsb index associativity entries context mask base =
+    record { index = index; associativity = associativity; entries = entries; context = context; mask = mask; base = base }
+
+abbrev pub rightTsb : Tsb
+rightTsb = tsb 0 1 512 0 1 0
+
+-- a list of one, that one; a list of one right descriptor, and what stands in the place behind it
+abbrev pub only : Tsb → Tables
+only t = ctx0 0 (listed 1 (t ∷ replicate 3 blankTsb))
+
+abbrev pub behind : Tsb → Tables
+behind t = ctx0 0 (listed 1 (rightTsb ∷ t ∷ replicate 2 blankTsb))
+
+abbrev pub statistics : ℕ → ℕ → Tables
+statistics c address = plants (withStatistics (guest0 .plant) c address)
+
+-- group 2 at a version, and source i of guest 0 changed
+abbrev pub sourced : ℕ → ℕ → (Source → Source) → Tables
+sourced interrupt i f =
+    let plant : Plant = withVersions (guest0 .plant) (at 0 0 interrupt 0) in
+    plants (withSource plant i (f (sourceAt plant i)))
+
+abbrev pub described : ℕ → ℕ → Bool → Source → Source
+described devhandle devino cookies s = record {
+  devhandle = devhandle;
+  devino = devino;
+  cookies = cookies;
+  enabled = s .enabled;
+  state = s .state;
+  target = s .target;
+  cookie = s .cookie;
+}
+
+-- another devhandle and devino; cookie support; none, and a cookie
+abbrev pub called : ℕ → ℕ → Source → Source
+called devhandle devino s = described devhandle devino (s .cookies) s
+
+abbrev pub supported : Source → Source
+supported s = described (s .devhandle) (s .devino) true s
+
+abbrev pub unsupported : ℕ → Source → Source
+unsupported cookie s = withCookie (described (s .devhandle) (s .devino) false s) cookie
+
+-- n sources that are told apart by devino; four guests
+unfoldable pub many : ℕ → List Source
+many zero = []
+many (suc n) = called 0x300 n blankSource ∷ many n
+
+abbrev pub full : ℕ → Plant
+full sources = record { versions = noVersions; cpus = 8; cpu = replicate 8 blankCpu; sources = sources; source = many 16 }
+
+abbrev pub fullGuest : Guest
+fullGuest = record { extents = record { count = 4; list = run 0 1 3 ∷ run 1 1 4 ∷ run 5 2 5 ∷ run 9 1 8 ∷ [] }; plant = full 16 }
+
+abbrev pub four : List Guest
+four = guest0 ∷ guest1 ∷ fullGuest ∷ workedGuest 1 7 0x400 ∷ []
+
+-- an absent guest's place with something in it
+abbrev pub ghost : Plant → Tables
+ghost plant = placed 3 (record { extents = blankGuest .extents; plant = plant })
+
+-- "Tables must hold": each of these breaks one rule
 abbrev pub broken : List Tables
 broken =
-    -- more guests than places, a record in an absent guest's place, a guest with none
-    withGuests 5 guest0 guest1 blankGuest
-    ∷ withGuests 2 guest0 guest1 guest0
-    ∷ withGuests 3 guest0 guest1 blankGuest
-    -- no cpu, nine cpus
-    ∷ withGuest0 (workedGuest 0 0 0x100)
-    ∷ withGuest0 (workedGuest 9 0 0x100)
-    -- a host page that guest 1 has, a source that it has, a devhandle of 29 bits
-    ∷ withGuest0 (workedGuest 2 1 0x100)
-    ∷ withGuest0 (workedGuest 2 0 0x200)
-    ∷ withGuest0 (workedGuest 2 0 0x1000_0000)
-    -- no extent, an extent with no page, one past the last real page, one in an absent place, two that do not ascend
+    -- "Guests 0 to 3"
+    counting 5 four
+    -- "the records of absent guests .. stay so": extents, versions, counts, a cpu's record, a source's
+    ∷ placed 3 (record { extents = record { count = 1; list = replicate 4 blankExtent }; plant = blankGuest .plant })
+    ∷ placed 3 (record { extents = record { count = 0; list = replicate 3 blankExtent ++ (run 1 0 0 ∷ []) }; plant = blankGuest .plant })
+    ∷ ghost (withVersions (blankGuest .plant) (at 1 0 0 0))
+    ∷ ghost (withVersions (blankGuest .plant) (at 0 1 0 0))
+    ∷ ghost (withVersions (blankGuest .plant) (at 0 0 1 0))
+    ∷ ghost (withVersions (blankGuest .plant) (at 0 0 0 1))
+    ∷ ghost (counted 1 0 (blankGuest .plant))
+    ∷ ghost (counted 0 1 (blankGuest .plant))
+    ∷ ghost (withStatistics (blankGuest .plant) 7 0x40)
+    ∷ ghost (withSource (blankGuest .plant) 15 (withState blankSource 1))
+    -- "1 to 8 cpus"; "0 to 16 interrupt sources"; "1 to 4 extents"
+    ∷ plants (counted 0 1 (guest0 .plant))
+    ∷ plants (counted 9 1 (guest0 .plant))
+    ∷ plants (full 17)
     ∷ extended 0 (replicate 4 blankExtent)
-    ∷ extended 1 (replicate 4 blankExtent)
-    ∷ extended 1 (record { real = 0xfff_ffff; count = 2; host = 2 } ∷ replicate 3 blankExtent)
-    ∷ extended 1 (record { real = 0; count = 1; host = 0 } ∷ record { real = 8; count = 1; host = 2 } ∷ replicate 2 blankExtent)
-    ∷ extended 2 (record { real = 8; count = 1; host = 0 } ∷ record { real = 0; count = 1; host = 2 } ∷ replicate 2 blankExtent)
-    -- a ring's base off its size, its range not valid, n 1, a size off 64, a head off 64, a tail past the ring
-    ∷ ringed 0x40 128 0 0
-    ∷ ringed 0x2000 128 0 0
-    ∷ ringed 0x80 64 0 0
-    ∷ ringed 0x80 130 0 0
-    ∷ ringed 0x80 128 32 0
-    ∷ ringed 0x80 128 0 128
-    -- versions that cannot be negotiated
-    ∷ plants (versioned (record { sun4v = 0; core = 2; interrupt = 0; statistics = 0 }))
-    ∷ plants (versioned (record { sun4v = 0; core = 0; interrupt = 3; statistics = 0 }))
-    -- a statistics address off 64, one of an absent cpu, a TSB descriptor of zeros
-    ∷ plants (withStatistics (guest0 .plant) 0 0x41)
-    ∷ plants (withStatistics (guest0 .plant) 2 0x40)
-    ∷ plants (withCtx0 (guest0 .plant) 0 (record { count = 1; list = replicate 4 blankTsb }))
-    -- enabled 2, state 3, a target that is no cpuid
-    ∷ sourced 1 (λ s. withEnabled s 2)
-    ∷ sourced 1 (λ s. withState s 3)
-    ∷ sourced 1 (λ s. withTarget s (Target.Cpu 2))
-    -- a cookie up to 2,047, one under 1.0
-    ∷ sourced 2 (λ s. withCookie s 2047)
-    ∷ sourced 1 (λ s. withCookie s 2048)
-    -- enabled while group 2 is not negotiated, and under 2.0 with cookie 0
-    ∷ sourced 0 (λ s. withEnabled s 1)
-    ∷ sourced 2 (λ s. withEnabled s 1)
+    -- "page count at least 1; real page plus count at most 2^28; host page plus count at most 65,536"
+    ∷ extended 1 (run 0 0 1 ∷ replicate 3 blankExtent)
+    ∷ extended 1 (run 0xfff_ffff 2 5 ∷ replicate 3 blankExtent)
+    ∷ extended 1 (run 0 2 0xffff ∷ replicate 3 blankExtent)
+    -- "a guest's extents ascend in real page without overlap"
+    ∷ extended 2 (run 8 1 1 ∷ run 0 1 5 ∷ replicate 2 blankExtent)
+    ∷ extended 2 (run 0 2 5 ∷ run 1 1 1 ∷ replicate 2 blankExtent)
+    -- "every run of host pages is compared with every other"; "no two sources on the host have the same devhandle and devino"
+    ∷ extended 1 (run 0 1 2 ∷ replicate 3 blankExtent)
+    ∷ sourced 0 0 (λ s. called 0x200 5 s)
+    -- absent extents: on the host, page 0 is nobody's
+    ∷ extended 1 (run 0 1 1 ∷ run 8 0 0 ∷ replicate 2 blankExtent)
+    ∷ extended 1 (run 0 1 1 ∷ blankExtent ∷ run 0 1 0 ∷ blankExtent ∷ [])
+    ∷ extended 1 (run 0 1 1 ∷ replicate 2 blankExtent ++ (run 0 0 1 ∷ []))
+    -- absent cpus: a queue record, both lists with their counts and places, the statistics address
+    ∷ ringed 2 0 0x80 128 0 0
+    ∷ ringed 7 3 0x80 128 0 0
+    ∷ ctx0 2 (listed 1 (replicate 4 blankTsb))
+    ∷ ctx0 2 (listed 0 (replicate 3 blankTsb ++ (rightTsb ∷ [])))
+    ∷ ctxnon0 2 (listed 1 (replicate 4 blankTsb))
+    ∷ ctxnon0 2 (listed 0 (rightTsb ∷ replicate 3 blankTsb))
+    ∷ statistics 2 0x40
+    -- absent sources: each of their fields
+    ∷ sourced 1 1 (called 1 0)
+    ∷ sourced 1 15 (called 0 1)
+    ∷ sourced 1 1 supported
+    ∷ sourced 1 1 (λ s. withEnabled s 1)
+    ∷ sourced 1 1 (λ s. withState s 1)
+    ∷ sourced 1 1 (λ s. withTarget s (Target.Cpu 0))
+    ∷ sourced 1 1 (λ s. withCookie s 0x800)
+    -- "each record unset or as its call would accept it": n 1, 3 and 512, base off 64n, range not valid; the last cpu and queue
+    ∷ ringed 0 0 0x40 64 0 0
+    ∷ ringed 0 0 0 192 0 0
+    ∷ ringed 0 0 0x40 128 0 0
+    ∷ ringed 0 0 0x2000 128 0 0
+    ∷ ringed 1 3 0x2000 128 0 0
+    -- a size off 64; "head and tail multiples of 64 below the ring's size"
+    ∷ ringed 0 0 0x80 130 0 0
+    ∷ ringed 0 0 0x80 128 32 0
+    ∷ ringed 0 0 0x80 128 128 0
+    ∷ ringed 0 0 0x80 128 0 32
+    ∷ ringed 0 0 0x80 128 0 128
+    -- a descriptor that 0x20 would refuse by each of its statuses; in the last place; in the other list
+    ∷ only (tsb 2 1 512 0 1 0)
+    ∷ only (tsb 0 1 512 0 5 0)
+    ∷ only (tsb 0 2 512 0 1 0)
+    ∷ only (tsb 0 1 512 1 1 0)
+    ∷ only (tsb 0 1 512 0 1 0x10)
+    ∷ only (tsb 0 1 512 0 1 0x2000)
+    ∷ ctx0 1 (listed 4 (replicate 3 rightTsb ++ (blankTsb ∷ [])))
+    ∷ ctxnon0 1 (listed 1 (replicate 4 blankTsb))
+    -- "two TSB lists of at most 4"; list places behind the count: each of their fields
+    ∷ ctx0 0 (listed 5 (replicate 4 rightTsb))
+    ∷ behind (tsb 1 0 0 0 0 0)
+    ∷ behind (tsb 0 1 0 0 0 0)
+    ∷ behind (tsb 0 0 1 0 0 0)
+    ∷ behind (tsb 0 0 0 1 0 0)
+    ∷ behind (tsb 0 0 0 0 1 0)
+    ∷ behind (tsb 0 0 0 0 0 1)
+    ∷ ctxnon0 0 (listed 0 (replicate 3 blankTsb ++ (rightTsb ∷ [])))
+    -- a statistics address that 0x102 would refuse: off 64, 512 bytes not valid
+    ∷ statistics 0 0x41
+    ∷ statistics 1 0x1e40
+    -- "versions as negotiable"
+    ∷ plants (withVersions (guest0 .plant) (at 2 0 0 0))
+    ∷ plants (withVersions (guest0 .plant) (at 0 2 0 0))
+    ∷ plants (withVersions (guest0 .plant) (at 0 0 3 0))
+    ∷ plants (withVersions (guest0 .plant) (at 0 0 0 2))
+    -- devhandle 28 bits, devino 7; "enabled 0 or 1, state 0 to 2, target unset or a cpuid of the guest"
+    ∷ sourced 0 0 (called 0x1000_0000 5)
+    ∷ sourced 0 0 (called 0x100 128)
+    ∷ sourced 1 0 (λ s. withEnabled s 2)
+    ∷ sourced 1 0 (λ s. withState s 3)
+    ∷ sourced 1 0 (λ s. withTarget s (Target.Cpu 2))
+    -- "a cookie 0, or above 2,047 with group 2 at 2.0 and support"
+    ∷ sourced 2 0 (λ s. withCookie s 2047)
+    ∷ sourced 1 0 (λ s. withCookie s 2048)
+    ∷ sourced 2 0 (unsupported 2048)
+    -- "a source is disabled while group 2 is not negotiated, and under 2.0 with cookie 0"
+    ∷ sourced 0 0 (λ s. withEnabled s 1)
+    ∷ sourced 2 0 (λ s. withEnabled s 1)
     ∷ []
 
 -- beside them, tables that keep the rules
 abbrev pub right : List Tables
 right =
-    workedTables
-    ∷ ringed 0x80 128 64 0
-    ∷ sourced 1 (λ s. withEnabled s 1)
-    ∷ sourced 2 (λ s. withEnabled (withCookie s 2048) 1)
-    ∷ sourced 2 (λ s. withTarget s (Target.Cpu 1))
-    ∷ plants (withStatistics (guest0 .plant) 1 0x40)
+    base
+    ∷ counting 4 four
+    ∷ ringed 1 3 0x80 128 64 0
+    ∷ ringed 0 0 0 0x2000 0 0x1fc0
+    ∷ ctx0 0 (listed 4 (replicate 4 rightTsb))
+    ∷ ctxnon0 1 (listed 1 (rightTsb ∷ replicate 3 blankTsb))
+    ∷ statistics 1 0x1e00
+    ∷ plants (withVersions (guest0 .plant) (at 1 1 2 1))
+    ∷ sourced 0 0 (called 0xfff_ffff 127)
+    ∷ sourced 0 0 (λ s. withState s 2)
+    ∷ sourced 0 0 (unsupported 0)
+    ∷ sourced 1 0 (λ s. withEnabled s 1)
+    ∷ sourced 2 0 (λ s. withEnabled (withCookie s 2048) 1)
+    ∷ sourced 2 0 (λ s. withTarget s (Target.Cpu 1))
     ∷ []
 
--- the status that a load answers on each of some tables
+-- what a load answers on each of some tables; and a status with four zeros for each
 unfoldable pub statuses : List Tables → List (List ℕ)
 statuses [] = []
-statuses (t ∷ ts) = numbers (hostEvent t (replicate 16384 0) (loading 0 0) .answer) ∷ statuses ts
+statuses (t ∷ ts) = numbers (hostEvent t (replicate 73728 0) (loading 0 0) .answer) ∷ statuses ts
 
-abbrev pub statusOnly : ℕ → List ℕ
-statusOnly status = status ∷ 0 ∷ 0 ∷ 0 ∷ 0 ∷ []
+unfoldable pub each-answers : ℕ → List Tables → List (List ℕ)
+each-answers status [] = []
+each-answers status (t ∷ ts) = (status ∷ 0 ∷ 0 ∷ 0 ∷ 0 ∷ []) ∷ each-answers status ts
 
--- an event on the worked tables, with so many bytes of memory
-abbrev pub answerOf : ℕ → Event → List ℕ
-answerOf n event = numbers (hostEvent workedTables (replicate n 0) event .answer)
+-- the worked image, with guest 1 on host page 1
+abbrev pub worked : List String
+worked = "image 12 221 0000000 0001 0000 0000100 0b 121 0000000 0001 0001 0000200 0b" ∷ []
+
+-- "memory that ends before the end of any extent's host pages 102", before 103 and 104
+abbrev pub shortMemory : List Exchange
+shortMemory =
+    "load 0 0" prints "66 0 0 0 0"
+    ∷ "load 2 0" prints "66 0 0 0 0"
+    ∷ "call 0 2 80 16" prints "66 0 0 0 0"
+    ∷ "raise 300 5" prints "66 0 0 0 0"
+    ∷ []
+
+-- an extent that is neither the last of its guest nor the last guest's ends last
+abbrev pub apart : List String
+apart = "image 12 140 0000000 0001 0002 0000005 0001 0000 120 0000000 0001 0001 0" ∷ []
+
+abbrev pub oneShort : List Exchange
+oneShort = "load 1 0" prints "66 0 0 0 0" ∷ []
+
+abbrev pub justEnough : List Exchange
+justEnough = "load 0 1ff8" prints "0 0 0 0 0" ∷ []
+
+-- "no such guest or cpuid 103 (raise: no such source 104)", before anything of the event's own
+abbrev pub noCaller : List Exchange
+noCaller =
+    "load 1 0" prints "0 0 0 0 0"
+    ∷ "load 2 1" prints "67 0 0 0 0"
+    ∷ "load 100000000 0" prints "67 0 0 0 0"
+    ∷ "store 2 1 0" prints "67 0 0 0 0"
+    ∷ "call 2 0 80 13" prints "67 0 0 0 0"
+    ∷ "call 0 2 80 13" prints "67 0 0 0 0"
+    ∷ "call 0 1 80 13" prints "7 0 0 0 0"
+    ∷ "call 1 1 ff 0 1 1 0" prints "67 0 0 0 0"
+    ∷ "head 2 0 3b 0" prints "67 0 0 0 0"
+    ∷ "head 0 2 3b 0" prints "67 0 0 0 0"
+    ∷ "head 0 1 3b 0" prints "6 0 0 0 0"
+    ∷ "raise 100 6" prints "68 0 0 0 0"
+    ∷ "raise 300 5" prints "68 0 0 0 0"
+    ∷ "raise 0 0" prints "68 0 0 0 0"
+    ∷ []
 
 pub record EntryCases : Type 0 where
-  pub bad-tables : statuses broken ≡ replicate 31 (statusOnly 101)
-  pub right-tables : statuses right ≡ replicate 6 (statusOnly 0)
-  pub short-memory : answerOf 16383 (loading 0 0) ≡ statusOnly 102
-  pub just-enough : answerOf 16384 (loading 0 0) ≡ statusOnly 0
-  pub no-guest : answerOf 16384 (loading 2 0) ≡ statusOnly 103
-  pub no-cpu : answerOf 16384 (callBy 2 0x16 0 0 0) ≡ statusOnly 103
-  pub no-source : answerOf 16384 (Event.Raise (record { devhandle = 0x300; devino = 5 })) ≡ statusOnly 104
+  pub bad-tables : statuses broken ≡ each-answers 101 broken
+  pub right-tables : statuses right ≡ each-answers 0 right
+  pub before-memory : numbers (hostEvent (statistics 0 0x41) [] (loading 9 0) .answer) ≡ 101 ∷ 0 ∷ 0 ∷ 0 ∷ 0 ∷ []
+  pub short-memory : Cases 16383 worked shortMemory
+  pub one-short : Cases 24575 apart oneShort
+  pub just-enough : Cases 24576 apart justEnough
+  pub no-caller : Cases 16384 worked noCaller
 
 pub entry-cases : EntryCases
-unfolding computing statuses
-entry-cases = record { bad-tables = refl; right-tables = refl; short-memory = refl; just-enough = refl; no-guest = refl; no-cpu = refl; no-source = refl }
+unfolding computing bytesOf comparing after heard many statuses each-answers
+entry-cases = record {
+  bad-tables = refl;
+  right-tables = refl;
+  before-memory = refl;
+  short-memory = refl;
+  one-short = refl;
+  just-enough = refl;
+  no-caller = refl;
+}
