@@ -79,12 +79,12 @@ mondoLeft =
     ∷ tells (loading 0 0xc0) 0x1122_3344_5566_7788
     ∷ []
 
--- a host with room for more, `image 11 320 0000000 0005 0000`: one guest, of three cpus and five pages at real 0
+-- a host with room for more, `image 11 320 0000000 0006 0000`: one guest, of three cpus and six pages at real 0
 abbrev pub wideImage : List ℕ
-wideImage = 0x11 ∷ 0x32 ∷ 0x00 ∷ 0x00 ∷ 0x00 ∷ 0x00 ∷ 0x00 ∷ 0x05 ∷ 0x00 ∷ 0x00 ∷ []
+wideImage = 0x11 ∷ 0x32 ∷ 0x00 ∷ 0x00 ∷ 0x00 ∷ 0x00 ∷ 0x00 ∷ 0x06 ∷ 0x00 ∷ 0x00 ∷ []
 
 abbrev pub wide : HostOutcome
-wide = record { answer = load wideImage .answer; tables = load wideImage .tables; memory = replicate 40960 0 }
+wide = record { answer = load wideImage .answer; tables = load wideImage .tables; memory = replicate 49152 0 }
 
 -- a mondo from cpu 0 to the list 1, 2 stands in both rings
 abbrev pub mondoToTwo : List Step
@@ -117,6 +117,10 @@ ringSizes =
 abbrev pub scrubbed : ℕ → ℕ → List Step
 scrubbed length v = accepted (call 0xff 0 1 1 0) ∷ tells (callBy 0 0x31 0 length 0) v ∷ []
 
+-- a sync of more than 0x31 would zero returns all of it
+abbrev pub synced : List Step
+synced = accepted (call 0xff 0 1 1 0) ∷ tells (callBy 0 0x32 0 0xa000 0) 0xa000 ∷ []
+
 -- what a guest's own rule gives for an event, before its writes are put back: 32,768 of them are not evaluated in memory here
 abbrev pub given : HostOutcome → ℕ → Event → Outcome
 given o g event = outcomeOf (plantAt (o .tables) g) (plantRule (sightOf (extentsOf (o .tables) g) (o .memory)) (plantAt (o .tables) g) event)
@@ -134,7 +138,8 @@ pub record AcceptedCalls : Type 0 where
   pub scrub-one-page : Answered wide (scrubbed 0x2000 0x2000)
   pub scrub-four : Answered wide (scrubbed 0x8000 0x8000)
   pub scrub-five : Answered wide (scrubbed 0xa000 0x8000)
-  pub scrub-zeros : given negotiatedCore 0 (callBy 0 0x31 0x2000 0x8000 0) .writes ≡ record { at = 0x2000; bytes = replicate 32768 0 } ∷ []
+  pub sync-five : Answered wide synced
+  pub scrub-zeros : given negotiatedCore 0 (callBy 0 0x31 0x2000 0xa000 0) .writes ≡ record { at = 0x2000; bytes = replicate 32768 0 } ∷ []
 
 pub accepted-calls : AcceptedCalls
 unfolding computing next heard expected
@@ -147,5 +152,6 @@ accepted-calls = record {
   scrub-one-page = refl;
   scrub-four = refl;
   scrub-five = refl;
+  sync-five = refl;
   scrub-zeros = refl;
 }
