@@ -6,6 +6,7 @@ pub mod Computing
 pub mod EntryCases
 pub mod Examples
 pub mod ImageCases
+pub mod KeptCases
 pub mod MemoryCases
 pub mod MondoCases
 pub mod QueueCases
