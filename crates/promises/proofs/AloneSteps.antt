@@ -12,40 +12,27 @@ use borrow.Author.Tests.{ltb-true, lt-ltb}
 use Rattle.rules.specs.declared.Event.{Event}
 use Rattle.rules.specs.declared.Guest.{Guest}
 use Rattle.rules.specs.declared.Owner.{Owner}
-use Rattle.rules.specs.declared.Plant.{Plant}
 use Rattle.rules.specs.declared.Tables.{Tables}
 use Rattle.rules.specs.Limits.{guestLimit, extentLimit}
 use Rattle.rules.specs.Kept.{guestAt, plantAt, extentsOf, hollowGuest, withPlant}
 use Rattle.rules.specs.Real.{Sight, sightOf, apply}
-use Rattle.rules.specs.Rulings.{Outcome, outcomeOf}
+use Rattle.rules.specs.Rulings.{Outcome}
 use Rattle.rules.specs.Tables.{extentsKeep, keepRules}
-use Rattle.rules.specs.Host.{HostOutcome, plantRule, ownerOf, longEnough, hostEvent}
+use Rattle.rules.specs.Host.{HostOutcome, ownerOf, longEnough, hostEvent}
 use Rattle.memory.specs.Ready.{present}
 use Rattle.memory.proofs.Checked.{guest-ready, guest-distinct, guests-strangers}
 use Rattle.memory.proofs.Isolation.{sight-unmoved}
-use Rattle.memory.proofs.Sights.{after, own-sight}
+use Rattle.memory.proofs.Sights.{own-sight}
 use Rattle.tables.proofs.SoundTables.{guests-few, pages-apart, extents-keep, extents-ascend}
 use Rattle.kept.proofs.Settled.{settled, event-settled, few}
-use Rattle.promises.proofs.Isolation.{isolation}
+use Rattle.promises.specs.Words.{belongs}
+use Rattle.promises.specs.Machine.{Machine, did, moved, machineOf}
+use Rattle.promises.proofs.Isolation.{owner-told, owner-not, isolation}
+use Rattle.promises.proofs.WrittenBytes.{after-written}
 
--- The machine that has one plant alone: the plant's record, and its own real memory.
-pub record Machine : Type 0 where
-  pub plant : Plant
-  pub sight : Sight
-
--- what it does with an event, and what it is afterwards
-abbrev pub did : Machine → Event → Outcome
-did m event = outcomeOf (m .plant) (plantRule (m .sight) (m .plant) event)
-
-abbrev pub moved : Machine → Event → Machine
-moved m event = record { plant = did m event .plant; sight = after (m .sight) (did m event .writes) }
-
--- a guest of a host, taken alone: its record, and what it sees of the host's memory
-abbrev pub takenAlone : List ℕ → Guest → Machine
+-- `machineOf`, by the guest's record
+abbrev takenAlone : List ℕ → Guest → Machine
 takenAlone memory guest = record { plant = guest .plant; sight = sightOf (present (guest .extents)) memory }
-
-abbrev pub machineOf : Tables → List ℕ → ℕ → Machine
-machineOf tables memory g = takenAlone memory (guestAt tables g)
 
 module _ (tables : Tables) (memory : List ℕ) (event : Event) (keep : keepRules tables ≡ true) (long : longEnough tables (length memory) ≡ true) where
   abbrev done : ℕ → Outcome
@@ -70,13 +57,14 @@ module _ (tables : Tables) (memory : List ℕ) (event : Event) (keep : keepRules
         (getD-set-same (tables .guest) g (record { extents = guestAt tables g .extents; plant = done g .plant }) hollowGuest (placed (tables .guest) g hollowGuest not-hollow))
         ∙ ap (λ (s : Sight). record { plant = done g .plant; sight = s })
         (own-sight (extentsOf tables g) (guest-distinct tables g (omega arith) counted (pages-apart tables keep)) (done g .writes) memory
-        (guest-ready tables g (omega arith) counted (length memory) (extents-ascend _ (extents-keep tables keep g h)) long .long))
+        (guest-ready tables g (omega arith) counted (length memory) (extents-ascend _ (extents-keep tables keep g h)) long .long)
+        ∙ after-written (done g .writes) (sightOf (extentsOf tables g) memory))
 
     -- An event of its own: the host answers as the machine does, and leaves what it leaves.
-    pub own-step : ownerOf tables event ≡ Owner.Guest g
+    pub own-step : belongs tables g event ≡ true
         → (hostEvent tables memory event .answer ≡ done g .answer)
         × (machineOf (hostEvent tables memory event .tables) (hostEvent tables memory event .memory) g ≡ moved (machineOf tables memory g) event)
-    own-step o = rw (event-settled tables memory event keep long, o, lt-ltb g (tables .guests) h) (refl, own-machine)
+    own-step own = rw (event-settled tables memory event keep long, owner-told g (ownerOf tables event) own, lt-ltb g (tables .guests) h) (refl, own-machine)
 
     -- An event of another: the machine is what it was.
     others-sight : (w : Owner) → (w ≡ Owner.Guest g → ⊥) → sightOf (extentsOf tables g) (settled tables memory event keep long w .memory) ≡ sightOf (extentsOf tables g) memory
@@ -94,8 +82,9 @@ module _ (tables : Tables) (memory : List ℕ) (event : Event) (keep : keepRules
             (done f .writes) memory)
         go false e = rw e
 
-    pub other-step : (ownerOf tables event ≡ Owner.Guest g → ⊥) → machineOf (hostEvent tables memory event .tables) (hostEvent tables memory event .memory) g ≡ machineOf tables memory g
-    other-step other =
-        ap (takenAlone (hostEvent tables memory event .memory)) (isolation tables memory event keep long g h other .0)
+    pub other-step : belongs tables g event ≡ false → machineOf (hostEvent tables memory event .tables) (hostEvent tables memory event .memory) g ≡ machineOf tables memory g
+    other-step foreign =
+        let limit : tables .guests ≤ guestLimit = guests-few tables keep in
+        ap (takenAlone (hostEvent tables memory event .memory)) (isolation tables memory event g (omega arith) foreign .kept)
         ∙ ap (λ (s : Sight). record { plant = plantAt tables g; sight = s })
-        (ap (λ (o : HostOutcome). sightOf (extentsOf tables g) (o .memory)) (event-settled tables memory event keep long) ∙ others-sight (ownerOf tables event) other)
+        (ap (λ (o : HostOutcome). sightOf (extentsOf tables g) (o .memory)) (event-settled tables memory event keep long) ∙ others-sight (ownerOf tables event) (owner-not g (ownerOf tables event) foreign))

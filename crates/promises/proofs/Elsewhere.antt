@@ -19,7 +19,8 @@ use Rattle.rules.proofs.Computing.{computing}
 use Rattle.rules.proofs.Examples.{workedImage, workedGuest, workedTables, call, ring}
 use Rattle.rules.proofs.AcceptedCalls.{storing, loading}
 use Rattle.kept.proofs.Accepted.{past-blank}
-use Rattle.promises.proofs.Alone.{belongs, ownEvents, ownAnswers, guestAfter}
+use Rattle.promises.specs.Words.{belongs, ownEvents, ownAnswers}
+use Rattle.promises.specs.Promises.{SamePlant, SameEnd}
 use Rattle.promises.proofs.TwoHosts.{demand-3}
 use Rattle.promises.proofs.NotVacuous.{worked-accepted}
 
@@ -66,13 +67,22 @@ enough′ : longEnough otherTables (length zeros) ≡ true
 unfolding computing
 enough′ = refl
 
+-- Guest 0 is the same plant in both.
+pub same-plant : SamePlant workedTables otherTables zeros zeros 0
+same-plant = record {
+  here = omega arith;
+  there = omega arith;
+  cpus = refl;
+  extents = (refl, refl, tt);
+  sources = refl;
+  source = refl;
+  byte = λ a. zero-seen _ a ∙ sym (zero-seen _ a);
+}
+
 -- Demand 3 of guest 0 on these two hosts: all that it asks holds, but for the events, which are any.
 pub the-same-elsewhere : (events events′ : List Event) → ownEvents (belongs workedTables 0) events ≡ ownEvents (belongs otherTables 0) events′
-    → (ownAnswers (belongs workedTables 0) workedTables zeros events ≡ ownAnswers (belongs otherTables 0) otherTables zeros events′)
-    × (guestAfter workedTables zeros 0 events ≡ guestAfter otherTables zeros 0 events′)
-the-same-elsewhere =
-    demand-3 workedImage otherImage workedTables otherTables worked-accepted other-accepted zeros zeros enough enough′ 0 (omega arith) (omega arith)
-    refl (refl, refl, tt) refl refl (λ a. zero-seen _ a ∙ sym (zero-seen _ a))
+    → SameEnd workedTables otherTables zeros zeros 0 events events′
+the-same-elsewhere = demand-3 workedImage otherImage workedTables otherTables zeros zeros worked-accepted enough other-accepted enough′ 0 same-plant
 
 -- events of guest 0, and the same with its neighbour's between them
 abbrev pub own : List Event
@@ -92,4 +102,4 @@ own-answers = refl
 
 -- the other host answers with its neighbour's between them.
 pub mixed-answers : ownAnswers (belongs otherTables 0) otherTables zeros mixed ≡ One 0 ∷ Done ∷ Done ∷ One 7 ∷ []
-mixed-answers = sym (the-same-elsewhere own mixed own-events .0) ∙ own-answers
+mixed-answers = sym (the-same-elsewhere own mixed own-events .answers) ∙ own-answers

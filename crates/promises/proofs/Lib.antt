@@ -7,8 +7,12 @@ pub mod DeterminedInside
 pub mod Elsewhere
 pub mod Examples
 pub mod Isolation
+pub mod Kept
 pub mod NotVacuous
+pub mod Passing
+pub mod Pieces
 pub mod Refusals
 pub mod ScrubbedBytes
 pub mod StoredWord
 pub mod TwoHosts
+pub mod WrittenBytes

@@ -4,33 +4,30 @@ use mathlib.Core.Bool.{true, false, and-false}
 use mathlib.Core.List.{List, [], _∷_}
 use Prim.Native.Nat.{ℕ, zero, suc, _+_, _≤_, _<_}
 use native.Mathlib.Omega.{arith}
-use lib.ListN.{length}
 use borrow.Author.Tests.{le-leb, lt-leb}
 use Rattle.rules.specs.declared.Event.{Event}
 use Rattle.rules.specs.declared.Extents.{Extents}
-use Rattle.rules.specs.declared.Owner.{Owner}
 use Rattle.rules.specs.declared.Tables.{Tables}
 use Rattle.rules.specs.Kept.{guestAt, extentsOf}
 use Rattle.rules.specs.Rulings.{granted}
 use Rattle.rules.specs.Image.{readImage}
-use Rattle.rules.specs.Tables.{keepRules}
-use Rattle.rules.specs.Host.{HostOutcome, ownerOf, longEnough, hostEvent}
+use Rattle.rules.specs.Host.{HostOutcome, ownerOf}
 use Rattle.rules.proofs.Computing.{computing}
 use Rattle.rules.proofs.Examples.{workedImage, workedTables, start, next, after}
 use Rattle.rules.proofs.AcceptedCalls.{storing}
 use Rattle.memory.specs.Cells.{cell, owns}
 use Rattle.memory.specs.Ready.{present}
 use Rattle.kept.proofs.Accepted.{load-keeps}
-use Rattle.kept.proofs.Tables.{event-keeps}
+use Rattle.kept.proofs.Steady.{event-steady}
+use Rattle.promises.specs.Words.{Passes, belongs, ownEvents, ownAnswers}
+use Rattle.promises.specs.Machine.{machineOf, guestAfter, answersAlone, machineAfter}
+use Rattle.promises.proofs.Passing.{passes-next}
 use Rattle.promises.proofs.Isolation.{isolation, nobodys-bytes}
-use Rattle.kept.proofs.Steady.{event-steady, long-same}
-use Rattle.promises.proofs.AloneSteps.{machineOf}
-use Rattle.promises.proofs.Alone.{belongs, ownEvents, ownAnswers, guestAfter, answersAlone, machineAfter, alone}
+use Rattle.promises.proofs.Alone.{alone}
 
--- what the promises ask of a host: it passes 101 and 102
-pub record Passes (o : HostOutcome) : Type 0 where
-  pub keep : keepRules (o .tables) ≡ true
-  pub long : longEnough (o .tables) (length (o .memory)) ≡ true
+-- what the promises ask of a host, of one that an event left
+abbrev pub Passing : HostOutcome → Type 0
+Passing o = Passes (o .tables) (o .memory)
 
 -- The worked image is accepted.
 pub worked-accepted : readImage workedImage ≡ granted workedTables
@@ -38,20 +35,15 @@ unfolding computing
 worked-accepted = refl
 
 -- The worked session's host passes.
-pub worked-passes : Passes start
+pub worked-passes : Passing start
 unfolding computing
 worked-passes = record { keep = load-keeps workedImage; long = refl }
 
-module _ (o : HostOutcome) (p : Passes o) where
+module _ (o : HostOutcome) (p : Passing o) where
   -- A host that passes does so after every event,
-  pub event-passes : (event : Event) → Passes (next o event)
+  pub event-passes : (event : Event) → Passing (next o event)
   unfolding next
-  event-passes event =
-      let s = event-steady (o .tables) (o .memory) event (p .keep) (p .long) in
-      record {
-        keep = event-keeps (o .tables) (o .memory) event (p .keep);
-        long = rw (s .1) (long-same (o .tables) (hostEvent (o .tables) (o .memory) event .tables) (s .0) (length (o .memory)) ∙ p .long);
-      }
+  event-passes event = passes-next (o .tables) (o .memory) p event
 
   -- which leaves the number of its guests and their extents.
   pub guests-stay : (event : Event) → next o event .tables .guests ≡ o .tables .guests
@@ -63,17 +55,17 @@ module _ (o : HostOutcome) (p : Passes o) where
   extents-stay event g = event-steady (o .tables) (o .memory) event (p .keep) (p .long) .0 .extents g
 
 -- So it does after any events, among them the calls that negotiate the groups.
-pub passes-after : (events : List Event) (o : HostOutcome) → Passes o → Passes (after o events)
+pub passes-after : (events : List Event) (o : HostOutcome) → Passing o → Passing (after o events)
 unfolding after
 passes-after [] o p = p
 passes-after (e ∷ es) o p = passes-after es (next o e) (event-passes o p e)
 
-pub guests-after : (events : List Event) (o : HostOutcome) → Passes o → after o events .tables .guests ≡ o .tables .guests
+pub guests-after : (events : List Event) (o : HostOutcome) → Passing o → after o events .tables .guests ≡ o .tables .guests
 unfolding after
 guests-after [] o p = refl
 guests-after (e ∷ es) o p = guests-after es (next o e) (event-passes o p e) ∙ guests-stay o p e
 
-pub extents-after : (events : List Event) (o : HostOutcome) → Passes o → (g : ℕ) → guestAt (after o events .tables) g .extents ≡ guestAt (o .tables) g .extents
+pub extents-after : (events : List Event) (o : HostOutcome) → Passing o → (g : ℕ) → guestAt (after o events .tables) g .extents ≡ guestAt (o .tables) g .extents
 unfolding after
 extents-after [] o p g = refl
 extents-after (e ∷ es) o p g = extents-after es (next o e) (event-passes o p e) g ∙ extents-stay o p e g
@@ -82,7 +74,7 @@ extents-after (e ∷ es) o p g = extents-after es (next o e) (event-passes o p e
 abbrev pub reached : List Event → HostOutcome
 reached events = after start events
 
-pub worked-passes-after : (events : List Event) → Passes (reached events)
+pub worked-passes-after : (events : List Event) → Passing (reached events)
 worked-passes-after events = passes-after events start worked-passes
 
 -- guests 0 and 1 are there, and guest 1's page is host offsets 8,192 to 16,383
@@ -111,28 +103,25 @@ nobodys-page events k l g h =
 
 module _ (events : List Event) (event : Event) where
   -- Isolation, there: after any events, one that is not guest 1's leaves guest 1's record and the bytes of its page.
-  pub neighbour-unchanged : (ownerOf (reached events .tables) event ≡ Owner.Guest 1 → ⊥)
+  pub neighbour-unchanged : belongs (reached events .tables) 1 event ≡ false
       → (guestAt (next (reached events) event .tables) 1 ≡ guestAt (reached events .tables) 1)
       × ((k : ℕ) → 8192 ≤ k → k < 16384 → cell (next (reached events) event .memory) k ≡ cell (reached events .memory) k)
   unfolding next
-  neighbour-unchanged other =
-      let p = worked-passes-after events in
-      let i = isolation (reached events .tables) (reached events .memory) event (p .keep) (p .long) 1 (guests-there events 1 (omega arith)) other in
-      (i .0, λ k l h. i .1 k (guest-1-page events k l h))
+  neighbour-unchanged foreign =
+      let i = isolation (reached events .tables) (reached events .memory) event 1 (omega arith) foreign in
+      (i .kept, λ k l h. i .bytes k (guest-1-page events k l h))
 
   -- and every event leaves the bytes from host offset 16,384 on.
   pub nobodys-unchanged : (k : ℕ) → 16384 ≤ k → cell (next (reached events) event .memory) k ≡ cell (reached events .memory) k
   unfolding next
-  nobodys-unchanged k l =
-      let p = worked-passes-after events in
-      nobodys-bytes (reached events .tables) (reached events .memory) event (p .keep) (p .long) k (nobodys-page events k l)
+  nobodys-unchanged k l = nobodys-bytes (reached events .tables) (reached events .memory) event k (nobodys-page events k l)
 
 -- So a store of guest 0, whatever its address and value, is nothing to guest 1.
 pub store-unseen : (address value : ℕ)
     → (guestAt (next start (storing 0 address value) .tables) 1 ≡ guestAt (start .tables) 1)
     × ((k : ℕ) → 8192 ≤ k → k < 16384 → cell (next start (storing 0 address value) .memory) k ≡ cell (start .memory) k)
 unfolding after ownerOf
-store-unseen address value = neighbour-unchanged [] (storing 0 address value) (λ e. let z : _≡_ {A = ℕ} 0 1 = cc in omega arith)
+store-unseen address value = neighbour-unchanged [] (storing 0 address value) refl
 
 -- Alone, there: after any events, and for any later ones, guest 0 and guest 1 each get what its machine alone gives.
 module _ (events later : List Event) (g : ℕ) (there : g < 2) where
@@ -144,6 +133,4 @@ module _ (events later : List Event) (g : ℕ) (there : g < 2) where
 
   pub worked-alone : (ownAnswers (belongs tables g) tables memory later ≡ answersAlone (machineOf tables memory g) (ownEvents (belongs tables g) later))
       × (guestAfter tables memory g later ≡ machineAfter (machineOf tables memory g) (ownEvents (belongs tables g) later))
-  worked-alone =
-      let p = worked-passes-after events in
-      alone tables memory g later (p .keep) (p .long) (guests-there events g there)
+  worked-alone = alone tables memory g later (worked-passes-after events) (guests-there events g there)

@@ -3,8 +3,9 @@
 use mathlib.Core.Path.{_≡_, refl, sym, ap, _∙_}
 use mathlib.Core.Bool.{Bool, true, false, _&&_, _||_, not, true≢false}
 use mathlib.Core.List.{List, []}
-use mathlib.Core.Logic.{_⊎_, inl, inr}
+use mathlib.Core.Logic.{inl, inr, ⊎-elim}
 use Prim.Native.Nat.{ℕ, _-_, _*_, _%_}
+use native.Mathlib.Omega.{arith}
 use lib.Dec.{leb, ltb, eqb}
 use lib.ListN.{length}
 use lib.Seq.{set-getD}
@@ -22,9 +23,9 @@ use Rattle.rules.specs.declared.Refusal.the-variants.{EINVAL, EBADALIGN, ENORAD
 use Rattle.rules.specs.declared.SourceCall.{SourceCall}
 use Rattle.rules.specs.declared.Tables.{Tables}
 use Rattle.rules.specs.Scan.{someBelow, allBelow}
-use Rattle.rules.specs.Kept.{plantAt, cpuAt, queueAt, sourceAt, extentsOf, hollowGuest, withStatistics}
+use Rattle.rules.specs.Kept.{plantAt, cpuAt, queueAt, sourceAt, extentsOf, hollowGuest}
 use Rattle.rules.specs.Real.{Sight, sightOf, bytesFrom, apply}
-use Rattle.rules.specs.Rulings.{Ruling, refused, granted, Outcome, outcomeOf, says, _or-refuse_then_, _grants_, if_then_else_}
+use Rattle.rules.specs.Rulings.{Ruling, refused, granted, Outcome, outcomeOf, _or-refuse_then_, _grants_, if_then_else_}
 use Rattle.rules.specs.Versions.{groupOf, known, majorOf, newest, set-version, get-version}
 use Rattle.rules.specs.Queues.{isQueue, forward, newRing, put, ringOf, baseAndSize, cpu-qconf, cpu-qinfo, cpu-myid, write-head}
 use Rattle.rules.specs.Mondo.{entryAt, entries, Sent, sendAll, sentAs, cpu-mondo-send}
@@ -33,23 +34,9 @@ use Rattle.rules.specs.Memory.{wholePages, mem-scrub, mem-sync, wholeWord, stor
 use Rattle.rules.specs.Sources.{found, sysinoOf, targetNumber, targetSet, deviceEntry, get-enabled, set-enabled, get-state, set-state, get-target, set-target, get-cookie, set-cookie, intr-devino2sysino, sourceCall, cookieCall, intr, vintr, raiseAt, raise}
 use Rattle.rules.specs.Calls.{functionOf, negotiatedAsOne, admitted, perform, call}
 use Rattle.rules.specs.Tables.{keepRules}
-use Rattle.rules.specs.Host.{HostOutcome, plantRule, ownerOf, longEnough, answeredBy, hostOutcomeOf, hostRule, hostEvent}
-
--- a call of 0x102
-abbrev pub StatisticsCall : Event → Type 0
-StatisticsCall (Event.Call c) = functionOf (c .trap) (c .function) ≡ Function.MmustatConf
-StatisticsCall (Event.Head h) = ⊥
-StatisticsCall (Event.Raise d) = ⊥
-StatisticsCall (Event.Load l) = ⊥
-StatisticsCall (Event.Store s) = ⊥
-
--- the refusals of 0x102 that "set the statistics address to 0"
-abbrev pub Clears : Refusal → Type 0
-Clears r = (r ≡ EBADALIGN) ⊎ (r ≡ ENORADDR)
-
--- What is excepted, of an event that answers the refusal r: EWOULDBLOCK ("see mondo send"), and those two of 0x102.
-abbrev pub Excepted : Event → Refusal → Type 0
-Excepted event r = (r ≡ EWOULDBLOCK) ⊎ (StatisticsCall event × Clears r)
+use Rattle.rules.specs.Host.{HostOutcome, plantRule, ownerOf, longEnough, putBack, answeredBy, hostOutcomeOf, hostRule, hostEvent}
+use Rattle.promises.specs.Words.{Unchanged, StatisticsCall, Clears, cleared, Excepted}
+use Rattle.promises.specs.Promises.{RefusalChangesNothing, RefusedStatistics}
 
 -- an answer that is no refusal
 abbrev accepting : Answer → Bool
@@ -267,33 +254,84 @@ plant-still sight plant (Event.Load l) r n = word-still plant r (sight .valid) (
 plant-still sight plant (Event.Store s) r n = word-still plant r (sight .valid) (s .address) _ (still-granted plant r _ refl)
 
 module _ (tables : Tables) (memory : List ℕ) (event : Event) (r : Refusal) (other : Excepted event r → ⊥) where
-  abbrev Unchanged : Ruling HostOutcome → Type 0
-  Unchanged x = hostOutcomeOf tables memory x .answer ≡ Refused r → (hostOutcomeOf tables memory x .tables ≡ tables) × (hostOutcomeOf tables memory x .memory ≡ memory)
+  -- a ruling that leaves the host if it answers r
+  abbrev StillHost : Ruling HostOutcome → Type 0
+  StillHost x = hostOutcomeOf tables memory x .answer ≡ Refused r → Unchanged tables memory (hostOutcomeOf tables memory x)
 
-  by-owner : (w : Owner) → Unchanged (answeredBy tables memory event w)
+  by-owner : (w : Owner) → StillHost (answeredBy tables memory event w)
   unfolding apply
   by-owner Owner.Nobody = λ e. (refl, refl)
   by-owner (Owner.Guest g) = go (ltb g (tables .guests)) refl
     where
-      go : (t : Bool) → ltb g (tables .guests) ≡ t → Unchanged (answeredBy tables memory event (Owner.Guest g))
+      go : (t : Bool) → ltb g (tables .guests) ≡ t → StillHost (answeredBy tables memory event (Owner.Guest g))
       go true q = rw q (λ e.
           let s = plant-still (sightOf (extentsOf tables g) memory) (plantAt tables g) event r other e in
           rw (s .0, s .1) (ap (λ l. record { guests = tables .guests; guest = l }) (set-getD (tables .guest) g hollowGuest), refl))
       go false q = rw q (λ e. (refl, refl))
 
-  -- For every tables, memory and event, an answer that is a refusal leaves the tables and every byte of memory as they were,
-  -- if it is not excepted.
-  pub refusal-changes-nothing : hostEvent tables memory event .answer ≡ Refused r → (hostEvent tables memory event .tables ≡ tables) × (hostEvent tables memory event .memory ≡ memory)
-  unfolding hostEvent hostRule
-  refusal-changes-nothing = go (keepRules tables) (longEnough tables (length memory))
-    where
-      go : (t u : Bool) → Unchanged (t or-refuse BadTables then u or-refuse ShortMemory then answeredBy tables memory event (ownerOf tables event))
-      go true true = by-owner (ownerOf tables event)
-      go true false = λ e. (refl, refl)
-      go false u = λ e. (refl, refl)
+  by-entry : (t u : Bool) → StillHost (t or-refuse BadTables then u or-refuse ShortMemory then answeredBy tables memory event (ownerOf tables event))
+  by-entry true true = by-owner (ownerOf tables event)
+  by-entry true false = λ e. (refl, refl)
+  by-entry false u = λ e. (refl, refl)
 
--- What the two excepted of 0x102 do to a plant: they set the statistics address to 0, and change nothing else.
-pub refused-statistics : (v : ℕ → ℕ → Bool) (plant : Plant) (cpu address : ℕ) (r : Refusal) → newStatistics v address ≡ refused r
-    → mmustat-conf v plant cpu address ≡ says (Refused r) (withStatistics plant cpu 0)
-unfolding mmustat-conf
-refused-statistics v plant cpu address r e = rw e
+-- For every tables, memory and event, an answer that is a refusal leaves the tables and every byte of memory as they were, if it
+-- is not excepted.
+pub refusal-changes-nothing : RefusalChangesNothing
+unfolding hostEvent hostRule
+refusal-changes-nothing tables memory event r other = by-entry tables memory event r other (keepRules tables) (longEnough tables (length memory))
+
+-- What the two excepted of 0x102 do.
+module _ (tables : Tables) (memory : List ℕ) (c : Call) (r : Refusal) (clears : Clears r) where
+  abbrev plant : Plant
+  plant = plantAt tables (c .guest)
+
+  -- a ruling that clears the statistics address and nothing else, if it answers r
+  abbrev Clearing : Ruling HostOutcome → Type 0
+  Clearing x = hostOutcomeOf tables memory x .answer ≡ Refused r → (hostOutcomeOf tables memory x .tables ≡ cleared tables c) × (hostOutcomeOf tables memory x .memory ≡ memory)
+
+  -- the plant's ruling, put back
+  abbrev given : Ruling Outcome → Ruling HostOutcome
+  given x = granted (putBack tables memory (c .guest) (outcomeOf plant x))
+
+  -- no other refusal clears
+  never : (s : Refusal) → (s ≡ EBADALIGN → ⊥) → (s ≡ ENORADDR → ⊥) → Refused s ≡ Refused r → ⊥
+  never s a n e = ⊎-elim (λ q. a (sym (told plant r s e) ∙ q)) (λ q. n (sym (told plant r s e) ∙ q)) clears
+
+  never-tables : Refused BadTables ≡ Refused r → ⊥
+  never-tables = never BadTables (λ q. let z : _≡_ {A = ℕ} 0 1 = cc in omega arith) (λ q. let z : _≡_ {A = ℕ} 0 1 = cc in omega arith)
+
+  never-memory : Refused ShortMemory ≡ Refused r → ⊥
+  never-memory = never ShortMemory (λ q. let z : _≡_ {A = ℕ} 0 1 = cc in omega arith) (λ q. let z : _≡_ {A = ℕ} 0 1 = cc in omega arith)
+
+  never-caller : Refused NoCaller ≡ Refused r → ⊥
+  never-caller = never NoCaller (λ q. let z : _≡_ {A = ℕ} 0 1 = cc in omega arith) (λ q. let z : _≡_ {A = ℕ} 0 1 = cc in omega arith)
+
+  never-trap : Refused EBADTRAP ≡ Refused r → ⊥
+  never-trap = never EBADTRAP (λ q. let z : _≡_ {A = ℕ} 0 1 = cc in omega arith) (λ q. let z : _≡_ {A = ℕ} 0 1 = cc in omega arith)
+
+  conf-clearing : (x : Ruling ℕ) → Clearing (given (setOrClear plant (c .cpu) x))
+  unfolding apply
+  conf-clearing (refused s) e = (refl, refl)
+  conf-clearing (granted a) e = absurd (true≢false (ap accepting e))
+
+  call-clearing : (sight : Sight) → StatisticsCall (Event.Call c) → Clearing (given (plantRule sight plant (Event.Call c)))
+  unfolding plantRule call admitted perform mmustat-conf
+  call-clearing sight q = rw q (go (ltb (c .cpu) (plant .cpus)) (leb 1 (plant .versions .statistics)))
+    where
+      go : (t u : Bool) → Clearing (given (t or-refuse NoCaller then (u or-refuse EBADTRAP then granted Function.MmustatConf) grants λ f. perform sight plant c f))
+      go true true = conf-clearing (newStatistics (sight .valid) (c .arg0))
+      go true false = λ e. absurd (never-trap e)
+      go false u = λ e. absurd (never-caller e)
+
+  event-clearing : StatisticsCall (Event.Call c) → (t u w : Bool) → ltb (c .guest) (tables .guests) ≡ w
+      → Clearing (t or-refuse BadTables then u or-refuse ShortMemory then answeredBy tables memory (Event.Call c) (Owner.Guest (c .guest)))
+  event-clearing q true true true e = rw e (call-clearing (sightOf (extentsOf tables (c .guest)) memory) q)
+  event-clearing q true true false e = rw e (λ e. absurd (never-caller e))
+  event-clearing q true false w e = λ e. absurd (never-memory e)
+  event-clearing q false u w e = λ e. absurd (never-tables e)
+
+-- EBADALIGN and ENORADDR of 0x102 set the statistics address of the calling cpu to 0, and change nothing else.
+pub refused-statistics : RefusedStatistics
+unfolding hostEvent hostRule ownerOf
+refused-statistics tables memory c r q clears =
+    event-clearing tables memory c r clears q (keepRules tables) (longEnough tables (length memory)) (ltb (c .guest) (tables .guests)) refl

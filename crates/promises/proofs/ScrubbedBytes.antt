@@ -1,5 +1,5 @@
 -- Not vacuous: on every host that passes 101 and 102, a scrub that is granted zeroes min(length, 32,768) bytes and no others.
-use mathlib.Core.Path.{_≡_, refl, ap, _∙_}
+use mathlib.Core.Path.{_≡_, refl, sym, ap, _∙_}
 use mathlib.Core.Bool.{true}
 use Prim.Native.Nat.{ℕ, _+_, _%_, _≤_, _<_, min}
 use native.Mathlib.Omega.{arith}
@@ -8,7 +8,7 @@ use borrow.Author.Tests.{eq-eqb, ne-eqb, lt-ltb, le-leb}
 use Rattle.rules.specs.declared.Answer.the-variants.{One}
 use Rattle.rules.specs.declared.Event.{Event}
 use Rattle.rules.specs.Kept.{plantAt, extentsOf}
-use Rattle.rules.specs.Real.{valid, byteAt}
+use Rattle.rules.specs.Real.{Sight, valid, byteAt}
 use Rattle.rules.specs.Rulings.{Outcome}
 use Rattle.rules.specs.Calls.{fastFunction, functionOf, admitted, perform, call}
 use Rattle.rules.specs.Memory.{wholePages, mem-scrub}
@@ -16,16 +16,18 @@ use Rattle.rules.specs.Host.{HostOutcome, plantRule, ownerOf}
 use Rattle.rules.proofs.Examples.{next}
 use Rattle.memory.specs.Cells.{one}
 use Rattle.memory.proofs.Places.{valid-part}
-use Rattle.memory.proofs.Sights.{over, after, over-at, over-before, over-past}
-use Rattle.promises.proofs.AloneSteps.{Machine, did, machineOf, own-step}
-use Rattle.promises.proofs.NotVacuous.{Passes}
+use Rattle.memory.proofs.Sights.{over, over-at, over-before, over-past}
+use Rattle.promises.specs.Words.{Passes}
+use Rattle.promises.specs.Machine.{Machine, allWritten, did, machineOf}
+use Rattle.promises.proofs.WrittenBytes.{over-written}
+use Rattle.promises.proofs.AloneSteps.{own-step}
 
 -- 0x31 (address, len) by a cpu of a guest
 abbrev pub scrub : ℕ → ℕ → ℕ → ℕ → Event
 scrub g cpu address len = Event.Call (record { guest = g; cpu = cpu; trap = 0x80; function = 0x31; arg0 = address; arg1 = len; arg2 = 0; arg3 = 0; arg4 = 0 })
 
 -- a guest that is there, a cpu of it, group 1 negotiated, and a whole range of pages that is valid
-module _ (o : HostOutcome) (p : Passes o) (g cpu : ℕ) (there : g < o .tables .guests) (caller : cpu < plantAt (o .tables) g .cpus) (core : 1 ≤ plantAt (o .tables) g .versions .core) (address len : ℕ) (some : 1 ≤ len) (aligned : address % 8192 ≡ 0) (whole : len % 8192 ≡ 0) (own : valid (extentsOf (o .tables) g) address len ≡ true) where
+module _ (o : HostOutcome) (p : Passes (o .tables) (o .memory)) (g cpu : ℕ) (there : g < o .tables .guests) (caller : cpu < plantAt (o .tables) g .cpus) (core : 1 ≤ plantAt (o .tables) g .versions .core) (address len : ℕ) (some : 1 ≤ len) (aligned : address % 8192 ≡ 0) (whole : len % 8192 ≡ 0) (own : valid (extentsOf (o .tables) g) address len ≡ true) where
   abbrev before : Machine
   before = machineOf (o .tables) (o .memory) g
 
@@ -55,10 +57,13 @@ module _ (o : HostOutcome) (p : Passes o) (g cpu : ℕ) (there : g < o .tables .
   seenAfter b = byteAt (extentsOf (scrubbedHost .tables) g) (scrubbedHost .memory) b
 
   step : (scrubbedHost .answer ≡ One number) × (machineOf (scrubbedHost .tables) (scrubbedHost .memory) g ≡ record { plant = before .plant; sight = over (before .sight) address (replicate number 0) })
-  unfolding next ownerOf after
+  unfolding next ownerOf allWritten
   step =
-      let s = own-step (o .tables) (o .memory) (scrub g cpu address len) (p .keep) (p .long) g there refl in
-      (s .0 ∙ ap (λ (x : Outcome). x .answer) scrubbed, s .1 ∙ ap (λ (x : Outcome). record { plant = x .plant; sight = after (before .sight) (x .writes) }) scrubbed)
+      let s = own-step (o .tables) (o .memory) (scrub g cpu address len) (p .keep) (p .long) g there (eq-eqb g g refl) in (
+        s .0 ∙ ap (λ (x : Outcome). x .answer) scrubbed,
+        s .1 ∙ ap (λ (x : Outcome). record { plant = x .plant; sight = allWritten (before .sight) (x .writes) }) scrubbed
+            ∙ ap (λ (t : Sight). record { plant = before .plant; sight = t }) (sym (over-written (replicate number 0) (before .sight) address)),
+      )
 
   seen : (b : ℕ) → seenAfter b ≡ over (before .sight) address (replicate number 0) .byte b
   seen b = ap (λ (m : Machine). m .sight .byte b) (step .1)

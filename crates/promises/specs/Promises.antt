@@ -1,0 +1,142 @@
+-- What is promised, as propositions: read this file first. The theorem that proves each is named in front of it, and stands in
+-- proofs/. The words are those of Words.antt and Machine.antt beside this file, and of the rules; docs/PROMISES.md lists them all.
+use mathlib.Core.Path.{_≡_}
+use mathlib.Core.Bool.{true, false}
+use mathlib.Core.List.{List}
+use Prim.Native.Nat.{ℕ, _<_}
+use lib.ListN.{length, replicate}
+use Rattle.rules.specs.declared.Answer.the-variants.{Refused}
+use Rattle.rules.specs.declared.Call.{Call}
+use Rattle.rules.specs.declared.Event.{Event}
+use Rattle.rules.specs.declared.Refusal.{Refusal}
+use Rattle.rules.specs.declared.Tables.{Tables}
+use Rattle.rules.specs.Limits.{guestLimit}
+use Rattle.rules.specs.Kept.{plantAt, extentsOf}
+use Rattle.rules.specs.Real.{valid, byteAt}
+use Rattle.rules.specs.Rulings.{refused, granted}
+use Rattle.rules.specs.Image.{readImage, load}
+use Rattle.rules.specs.Tables.{keepRules}
+use Rattle.rules.specs.Host.{longEnough, hostRule, hostEvent}
+use Rattle.rules.specs.Session.{output}
+use Rattle.memory.specs.Cells.{cell, owns}
+use Rattle.session.specs.Feeding.{atFirst}
+use Rattle.session.proofs.Whole.{inPieces, joinedUp, Roomy}
+use Rattle.promises.specs.Words.{Passes, belongs, tablesAfter, ownEvents, ownAnswers, Unchanged, Untouched, SameReal, StatisticsCall, Clears, cleared, Excepted}
+use Rattle.promises.specs.Machine.{machineOf, guestAfter, answersAlone, machineAfter}
+
+-- The tables keep the rules.
+
+-- `kept`: from loading on, whatever the events. So a host that has loaded an image answers no event with 101.
+pub record Kept : Type 0 where
+  -- an accepted image gives tables that keep the rules
+  pub accepted-keeps : (bytes : List ℕ) (tables : Tables) → readImage bytes ≡ granted tables → keepRules tables ≡ true
+  -- so does every image: one that is refused gives the tables with no guest
+  pub load-keeps : (bytes : List ℕ) → keepRules (load bytes .tables) ≡ true
+  -- every event, refused or not, leaves tables that keep the rules
+  pub event-keeps : (tables : Tables) (memory : List ℕ) (event : Event) → keepRules tables ≡ true
+      → keepRules (hostEvent tables memory event .tables) ≡ true
+
+-- Demand 2: no event changes a record or a byte of a guest other than its own. Nothing is asked of the tables and the memory.
+
+-- `isolation`: for every place of the tables, whether a guest is there or not.
+abbrev pub Isolation : Type 0
+Isolation =
+    (tables : Tables) (memory : List ℕ) (event : Event) (g : ℕ) → g < guestLimit
+    → belongs tables g event ≡ false
+    → Untouched tables memory g (hostEvent tables memory event)
+
+-- `nobodys-bytes`: no event changes a byte in nobody's host pages.
+abbrev pub NobodysBytes : Type 0
+NobodysBytes =
+    (tables : Tables) (memory : List ℕ) (event : Event) (k : ℕ)
+    → ((g : ℕ) → g < tables .guests → owns (extentsOf tables g) k ≡ false)
+    → cell (hostEvent tables memory event .memory) k ≡ cell memory k
+
+-- What a refusal leaves behind.
+
+-- `refused-at-entry`: 101, 102, 103 of a guest that is not there, and 104 change nothing.
+abbrev pub RefusedAtEntry : Type 0
+RefusedAtEntry =
+    (tables : Tables) (memory : List ℕ) (event : Event) (r : Refusal)
+    → hostRule tables memory event ≡ refused r
+    → Unchanged tables memory (hostEvent tables memory event)
+
+-- `refusal-changes-nothing`: no refusal changes anything, but for those that are excepted.
+abbrev pub RefusalChangesNothing : Type 0
+RefusalChangesNothing =
+    (tables : Tables) (memory : List ℕ) (event : Event) (r : Refusal) → (Excepted event r → ⊥)
+    → hostEvent tables memory event .answer ≡ Refused r
+    → Unchanged tables memory (hostEvent tables memory event)
+
+-- `refused-statistics`: those of 0x102 that are excepted set the statistics address to 0, and change nothing else.
+abbrev pub RefusedStatistics : Type 0
+RefusedStatistics =
+    (tables : Tables) (memory : List ℕ) (c : Call) (r : Refusal) → StatisticsCall (Event.Call c) → Clears r
+    → hostEvent tables memory (Event.Call c) .answer ≡ Refused r
+    → (hostEvent tables memory (Event.Call c) .tables ≡ cleared tables c) × (hostEvent tables memory (Event.Call c) .memory ≡ memory)
+
+-- Demand 3: what a plant gets does not depend on its neighbours.
+
+-- `alone`: over any events of a host that passes 101 and 102, a guest gets what the machine that has it alone gives, which is
+-- given the guest's own events only: the answers, and at the end its record and the byte at each real address.
+abbrev pub Alone : Type 0
+Alone =
+    (tables : Tables) (memory : List ℕ) (g : ℕ) (events : List Event) → Passes tables memory → g < tables .guests
+    → (ownAnswers (belongs tables g) tables memory events
+    ≡ answersAlone (machineOf tables memory g) (ownEvents (belongs tables g) events))
+    × (guestAfter tables memory g events ≡ machineAfter (machineOf tables memory g) (ownEvents (belongs tables g) events))
+
+-- `two-hosts`: two hosts that pass, in which the guest has the same record, the same valid ranges and the same byte at each real
+-- address. If its own events are the same in the same order, with any others between, its answers and all of that are the same.
+abbrev pub TwoHosts : Type 0
+TwoHosts =
+    (tables tables′ : Tables) (memory memory′ : List ℕ) (g : ℕ) (events events′ : List Event)
+    → Passes tables memory → g < tables .guests
+    → Passes tables′ memory′ → g < tables′ .guests
+    → plantAt tables g ≡ plantAt tables′ g
+    → ((a n : ℕ) → valid (extentsOf tables g) a n ≡ valid (extentsOf tables′ g) a n)
+    → ((a : ℕ) → byteAt (extentsOf tables g) memory a ≡ byteAt (extentsOf tables′ g) memory′ a)
+    → ownEvents (belongs tables g) events ≡ ownEvents (belongs tables′ g) events′
+    → (ownAnswers (belongs tables g) tables memory events ≡ ownAnswers (belongs tables′ g) tables′ memory′ events′)
+    × (guestAfter tables memory g events ≡ guestAfter tables′ memory′ g events′)
+
+-- Demand 3 in its own words: "Two hosts, each with an accepted image and enough memory; one plant has the same guest number, cpus,
+-- real extents, device list and first memory in both, all else may differ. If its own events are the same in the same order, with
+-- neighbours' events anywhere between, it gets the same answers (those of demand 2) and ends with the same records, host pages
+-- aside, and memory."
+
+-- "one plant has the same guest number, cpus, real extents, device list and first memory in both"
+pub record SamePlant (tables tables′ : Tables) (memory memory′ : List ℕ) (g : ℕ) : Type 0 where
+  pub here : g < tables .guests
+  pub there : g < tables′ .guests
+  pub cpus : plantAt tables g .cpus ≡ plantAt tables′ g .cpus
+  pub extents : SameReal (extentsOf tables g) (extentsOf tables′ g)
+  pub sources : plantAt tables g .sources ≡ plantAt tables′ g .sources
+  pub source : plantAt tables g .source ≡ plantAt tables′ g .source
+  pub byte : (a : ℕ) → byteAt (extentsOf tables g) memory a ≡ byteAt (extentsOf tables′ g) memory′ a
+
+-- "it gets the same answers (those of demand 2) and ends with the same records, host pages aside, and memory"
+pub record SameEnd (tables tables′ : Tables) (memory memory′ : List ℕ) (g : ℕ) (events events′ : List Event) : Type 0 where
+  pub answers : ownAnswers (belongs tables g) tables memory events ≡ ownAnswers (belongs tables′ g) tables′ memory′ events′
+  -- all that its events can change: its record, and the byte at each real address
+  pub guest : guestAfter tables memory g events ≡ guestAfter tables′ memory′ g events′
+  -- the rest of its record
+  pub extents : SameReal (extentsOf (tablesAfter tables memory events) g) (extentsOf (tablesAfter tables′ memory′ events′) g)
+
+-- `demand-3`
+abbrev pub Demand-3 : Type 0
+Demand-3 =
+    (bytes bytes′ : List ℕ) (tables tables′ : Tables) (memory memory′ : List ℕ)
+    → readImage bytes ≡ granted tables → longEnough tables (length memory) ≡ true
+    → readImage bytes′ ≡ granted tables′ → longEnough tables′ (length memory′) ≡ true
+    → (g : ℕ) → SamePlant tables tables′ memory memory′ g
+    → (events events′ : List Event) → ownEvents (belongs tables g) events ≡ ownEvents (belongs tables′ g) events′
+    → SameEnd tables tables′ memory memory′ g events events′
+
+-- The session.
+
+-- `in-pieces`: input in pieces of any size, each of which has room for its answers, prints what the whole input prints.
+abbrev pub InPieces : Type 0
+InPieces =
+    (out : List ℕ) (pieces : List (List ℕ)) → Roomy out pieces
+    → inPieces out atFirst (replicate 32768 0) pieces ≡ output (joinedUp pieces)

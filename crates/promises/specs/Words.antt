@@ -1,0 +1,97 @@
+-- The words in which the promises speak of a host, which is its tables and its memory, and of events.
+use mathlib.Core.Path.{_≡_}
+use mathlib.Core.Bool.{Bool, true, false}
+use mathlib.Core.List.{List, [], _∷_}
+use mathlib.Core.Logic.{_⊎_}
+use Prim.Native.Nat.{ℕ}
+use lib.Dec.{eqb}
+use lib.ListN.{length}
+use Rattle.rules.specs.declared.Answer.{Answer}
+use Rattle.rules.specs.declared.Call.{Call}
+use Rattle.rules.specs.declared.Event.{Event}
+use Rattle.rules.specs.declared.Extent.{Extent}
+use Rattle.rules.specs.declared.Function.{Function}
+use Rattle.rules.specs.declared.Owner.{Owner}
+use Rattle.rules.specs.declared.Refusal.{Refusal}
+use Rattle.rules.specs.declared.Refusal.the-variants.{EBADALIGN, ENORADDR, EWOULDBLOCK}
+use Rattle.rules.specs.declared.Tables.{Tables}
+use Rattle.rules.specs.Kept.{guestAt, plantAt, extentsOf, withPlant, withStatistics}
+use Rattle.rules.specs.Rulings.{if_then_else_}
+use Rattle.rules.specs.Calls.{functionOf}
+use Rattle.rules.specs.Tables.{keepRules}
+use Rattle.rules.specs.Host.{HostOutcome, ownerOf, longEnough, hostEvent}
+use Rattle.memory.specs.Cells.{cell, owns}
+
+-- the host passes 101 and 102
+pub record Passes (tables : Tables) (memory : List ℕ) : Type 0 where
+  pub keep : keepRules tables ≡ true
+  pub long : longEnough tables (length memory) ≡ true
+
+-- the owner is guest g
+abbrev pub isOwner : ℕ → Owner → Bool
+isOwner g Owner.Nobody = false
+isOwner g (Owner.Guest h) = eqb h g
+
+-- the event belongs to guest g
+abbrev pub belongs : Tables → ℕ → Event → Bool
+belongs tables g event = isOwner g (ownerOf tables event)
+
+-- the host's tables after a list of events
+unfoldable pub tablesAfter : Tables → List ℕ → List Event → Tables
+tablesAfter tables memory [] = tables
+tablesAfter tables memory (e ∷ es) = tablesAfter (hostEvent tables memory e .tables) (hostEvent tables memory e .memory) es
+
+-- the host's memory after them
+unfoldable pub memoryAfter : Tables → List ℕ → List Event → List ℕ
+memoryAfter tables memory [] = memory
+memoryAfter tables memory (e ∷ es) = memoryAfter (hostEvent tables memory e .tables) (hostEvent tables memory e .memory) es
+
+-- those events of a list that are a guest's own, in their order. `own` says which; it is `belongs` of the tables at first, since no
+-- event changes whose another is.
+unfoldable pub ownEvents : (Event → Bool) → List Event → List Event
+ownEvents own [] = []
+ownEvents own (e ∷ es) = if own e then e ∷ ownEvents own es else ownEvents own es
+
+-- what the host answers to those, given all of the list
+unfoldable pub ownAnswers : (Event → Bool) → Tables → List ℕ → List Event → List Answer
+ownAnswers own tables memory [] = []
+ownAnswers own tables memory (e ∷ es) =
+    let o : HostOutcome = hostEvent tables memory e in
+    let later : List Answer = ownAnswers own (o .tables) (o .memory) es in
+    if own e then o .answer ∷ later else later
+
+-- nothing of the host changed
+abbrev pub Unchanged : Tables → List ℕ → HostOutcome → Type 0
+Unchanged tables memory after = (after .tables ≡ tables) × (after .memory ≡ memory)
+
+-- nothing of guest g changed: not its record, and no byte in the host pages of its extents
+pub record Untouched (tables : Tables) (memory : List ℕ) (g : ℕ) (after : HostOutcome) : Type 0 where
+  pub kept : guestAt (after .tables) g ≡ guestAt tables g
+  pub bytes : (k : ℕ) → owns (extentsOf tables g) k ≡ true → cell (after .memory) k ≡ cell memory k
+
+-- the same real extents, host pages aside
+abbrev pub SameReal : List Extent → List Extent → Type 0
+SameReal [] [] = Unit {0}
+SameReal [] (y ∷ ys) = ⊥
+SameReal (x ∷ xs) [] = ⊥
+SameReal (x ∷ xs) (y ∷ ys) = (x .real ≡ y .real) × (x .count ≡ y .count) × SameReal xs ys
+
+-- a call of 0x102
+abbrev pub StatisticsCall : Event → Type 0
+StatisticsCall (Event.Call c) = functionOf (c .trap) (c .function) ≡ Function.MmustatConf
+StatisticsCall (Event.Head h) = ⊥
+StatisticsCall (Event.Raise d) = ⊥
+StatisticsCall (Event.Load l) = ⊥
+StatisticsCall (Event.Store s) = ⊥
+
+-- the refusals of 0x102 that "set the statistics address to 0"
+abbrev pub Clears : Refusal → Type 0
+Clears r = (r ≡ EBADALIGN) ⊎ (r ≡ ENORADDR)
+
+-- the tables with the statistics address of the calling cpu 0
+abbrev pub cleared : Tables → Call → Tables
+cleared tables c = withPlant tables (c .guest) (withStatistics (plantAt tables (c .guest)) (c .cpu) 0)
+
+-- the refusals that may change something: EWOULDBLOCK ("see mondo send"), and those two of 0x102
+abbrev pub Excepted : Event → Refusal → Type 0
+Excepted event r = (r ≡ EWOULDBLOCK) ⊎ (StatisticsCall event × Clears r)
