@@ -5,16 +5,18 @@ use mathlib.Core.List.{List, [], _∷_}
 use Prim.Native.Nat.{ℕ}
 use native.Mathlib.Omega.{arith}
 use lib.ListN.{length, replicate}
-use Rattle.rules.specs.declared.Answer.the-variants.{Done, One}
+use Rattle.rules.specs.declared.Answer.the-variants.{Done, One, Refused}
 use Rattle.rules.specs.declared.Event.{Event}
 use Rattle.rules.specs.declared.Extent.{Extent}
+use Rattle.rules.specs.declared.Owner.{Owner}
 use Rattle.rules.specs.declared.Place.{Place}
+use Rattle.rules.specs.declared.Refusal.the-variants.{NoSource}
 use Rattle.rules.specs.declared.Tables.{Tables}
 use Rattle.rules.specs.Kept.{blankExtent, blankCpu, blankSource, blankGuest, noVersions}
 use Rattle.rules.specs.Real.{located, byteThere, byteAt}
 use Rattle.rules.specs.Rulings.{granted}
 use Rattle.rules.specs.Image.{readImage}
-use Rattle.rules.specs.Host.{longEnough}
+use Rattle.rules.specs.Host.{ownerOf, longEnough, hostEvent}
 use Rattle.rules.proofs.Computing.{computing}
 use Rattle.rules.proofs.Examples.{workedImage, workedGuest, workedTables, call, ring}
 use Rattle.rules.proofs.AcceptedCalls.{storing, loading}
@@ -103,3 +105,32 @@ own-answers = refl
 -- the other host answers with its neighbour's between them.
 pub mixed-answers : ownAnswers (belongs otherTables 0) otherTables zeros mixed ≡ One 0 ∷ Done ∷ Done ∷ One 7 ∷ []
 mixed-answers = sym (the-same-elsewhere own mixed own-events .answers) ∙ own-answers
+
+-- A raise that is the neighbour's in one host and nobody's in the other: guest 1 has the source 0x200 5 in the first only.
+abbrev pub raising : Event
+raising = Event.Raise (record { devhandle = 0x200; devino = 5 })
+
+pub raise-here : (ownerOf workedTables raising ≡ Owner.Guest 1) × (hostEvent workedTables zeros raising .answer ≡ One 1)
+unfolding computing
+raise-here = (refl, refl)
+
+pub raise-there : (ownerOf otherTables raising ≡ Owner.Nobody) × (hostEvent otherTables zeros raising .answer ≡ Refused NoSource)
+unfolding computing
+raise-there = (refl, refl)
+
+-- one list of events for both hosts, with that raise between guest 0's own
+abbrev pub raised : List Event
+raised = call 0xff 0 1 1 0 ∷ raising ∷ ring 0x80 2 ∷ storing 0 0x100 7 ∷ raising ∷ loading 0 0x100 ∷ []
+
+raised-own : ownEvents (belongs workedTables 0) raised ≡ ownEvents (belongs otherTables 0) raised
+unfolding computing ownEvents
+raised-own = refl
+
+-- Guest 0 gets the same from both, and ends the same.
+pub raise-unseen : SameEnd workedTables otherTables zeros zeros 0 raised raised
+raise-unseen = the-same-elsewhere raised raised raised-own
+
+-- Its own events are the four above, and their answers too.
+pub raised-answers : (ownEvents (belongs workedTables 0) raised ≡ own) × (ownAnswers (belongs otherTables 0) otherTables zeros raised ≡ One 0 ∷ Done ∷ Done ∷ One 7 ∷ [])
+unfolding computing ownEvents ownAnswers
+raised-answers = (refl, refl)
