@@ -21,9 +21,9 @@ passes-next tables memory p e =
     }
 
 -- No events change a guest's extents.
-pub extents-stay : (events : List Event) (tables : Tables) (memory : List ℕ) → Passes tables memory → (g : ℕ) → guestAt (tablesAfter tables memory events) g .extents ≡ guestAt tables g .extents
+pub extents-kept : (events : List Event) (tables : Tables) (memory : List ℕ) → Passes tables memory → (g : ℕ) → guestAt (tablesAfter tables memory events) g .extents ≡ guestAt tables g .extents
 unfolding tablesAfter
-extents-stay [] tables memory p g = refl
-extents-stay (e ∷ es) tables memory p g =
-    extents-stay es (hostEvent tables memory e .tables) (hostEvent tables memory e .memory) (passes-next tables memory p e) g
+extents-kept [] tables memory p g = refl
+extents-kept (e ∷ es) tables memory p g =
+    extents-kept es (hostEvent tables memory e .tables) (hostEvent tables memory e .memory) (passes-next tables memory p e) g
     ∙ event-steady tables memory e (p .keep) (p .long) .0 .extents g

@@ -5,10 +5,10 @@ use mathlib.Core.Bool.{Bool, true, false, _&&_, _||_, not, true≢false}
 use mathlib.Core.List.{List, []}
 use mathlib.Core.Logic.{inl, inr, ⊎-elim}
 use Prim.Native.Nat.{ℕ, _-_, _*_, _%_}
-use native.Mathlib.Omega.{arith}
 use lib.Dec.{leb, ltb, eqb}
 use lib.ListN.{length}
 use lib.Seq.{set-getD}
+use borrow.Author.Tests.{eqb-false}
 use Rattle.rules.specs.declared.Answer.{Answer}
 use Rattle.rules.specs.declared.Answer.the-variants.{Done, One, Two, Refused}
 use Rattle.rules.specs.declared.Call.{Call}
@@ -25,6 +25,7 @@ use Rattle.rules.specs.declared.Tables.{Tables}
 use Rattle.rules.specs.Scan.{someBelow, allBelow}
 use Rattle.rules.specs.Kept.{plantAt, cpuAt, queueAt, sourceAt, extentsOf, hollowGuest}
 use Rattle.rules.specs.Real.{Sight, sightOf, bytesFrom, apply}
+use Rattle.rules.specs.Statuses.{statusOf}
 use Rattle.rules.specs.Rulings.{Ruling, refused, granted, Outcome, outcomeOf, _or-refuse_then_, _grants_, if_then_else_}
 use Rattle.rules.specs.Versions.{groupOf, known, majorOf, newest, set-version, get-version}
 use Rattle.rules.specs.Queues.{isQueue, forward, newRing, put, ringOf, baseAndSize, cpu-qconf, cpu-qinfo, cpu-myid, write-head}
@@ -293,21 +294,12 @@ module _ (tables : Tables) (memory : List ℕ) (c : Call) (r : Refusal) (clears 
   abbrev given : Ruling Outcome → Ruling HostOutcome
   given x = granted (putBack tables memory (c .guest) (outcomeOf plant x))
 
-  -- no other refusal clears
-  never : (s : Refusal) → (s ≡ EBADALIGN → ⊥) → (s ≡ ENORADDR → ⊥) → Refused s ≡ Refused r → ⊥
-  never s a n e = ⊎-elim (λ q. a (sym (told plant r s e) ∙ q)) (λ q. n (sym (told plant r s e) ∙ q)) clears
-
-  never-tables : Refused BadTables ≡ Refused r → ⊥
-  never-tables = never BadTables (λ q. let z : _≡_ {A = ℕ} 0 1 = cc in omega arith) (λ q. let z : _≡_ {A = ℕ} 0 1 = cc in omega arith)
-
-  never-memory : Refused ShortMemory ≡ Refused r → ⊥
-  never-memory = never ShortMemory (λ q. let z : _≡_ {A = ℕ} 0 1 = cc in omega arith) (λ q. let z : _≡_ {A = ℕ} 0 1 = cc in omega arith)
-
-  never-caller : Refused NoCaller ≡ Refused r → ⊥
-  never-caller = never NoCaller (λ q. let z : _≡_ {A = ℕ} 0 1 = cc in omega arith) (λ q. let z : _≡_ {A = ℕ} 0 1 = cc in omega arith)
-
-  never-trap : Refused EBADTRAP ≡ Refused r → ⊥
-  never-trap = never EBADTRAP (λ q. let z : _≡_ {A = ℕ} 0 1 = cc in omega arith) (λ q. let z : _≡_ {A = ℕ} 0 1 = cc in omega arith)
+  -- no other refusal clears: their numbers differ
+  never : (s : Refusal) → eqb (statusOf s) 8 ≡ false → eqb (statusOf s) 2 ≡ false → Refused s ≡ Refused r → ⊥
+  unfolding statusOf
+  never s align range e =
+      let same : s ≡ r = sym (told plant r s e) in
+      ⊎-elim (λ q. eqb-false (statusOf s) 8 align (ap statusOf (same ∙ q))) (λ q. eqb-false (statusOf s) 2 range (ap statusOf (same ∙ q))) clears
 
   conf-clearing : (x : Ruling ℕ) → Clearing (given (setOrClear plant (c .cpu) x))
   unfolding apply
@@ -315,20 +307,21 @@ module _ (tables : Tables) (memory : List ℕ) (c : Call) (r : Refusal) (clears 
   conf-clearing (granted a) e = absurd (true≢false (ap accepting e))
 
   call-clearing : (sight : Sight) → StatisticsCall (Event.Call c) → Clearing (given (plantRule sight plant (Event.Call c)))
-  unfolding plantRule call admitted perform mmustat-conf
+  unfolding statusOf plantRule call admitted perform mmustat-conf
   call-clearing sight q = rw q (go (ltb (c .cpu) (plant .cpus)) (leb 1 (plant .versions .statistics)))
     where
       go : (t u : Bool) → Clearing (given (t or-refuse NoCaller then (u or-refuse EBADTRAP then granted Function.MmustatConf) grants λ f. perform sight plant c f))
       go true true = conf-clearing (newStatistics (sight .valid) (c .arg0))
-      go true false = λ e. absurd (never-trap e)
-      go false u = λ e. absurd (never-caller e)
+      go true false = λ e. absurd (never EBADTRAP refl refl e)
+      go false u = λ e. absurd (never NoCaller refl refl e)
 
   event-clearing : StatisticsCall (Event.Call c) → (t u w : Bool) → ltb (c .guest) (tables .guests) ≡ w
       → Clearing (t or-refuse BadTables then u or-refuse ShortMemory then answeredBy tables memory (Event.Call c) (Owner.Guest (c .guest)))
+  unfolding statusOf
   event-clearing q true true true e = rw e (call-clearing (sightOf (extentsOf tables (c .guest)) memory) q)
-  event-clearing q true true false e = rw e (λ e. absurd (never-caller e))
-  event-clearing q true false w e = λ e. absurd (never-memory e)
-  event-clearing q false u w e = λ e. absurd (never-tables e)
+  event-clearing q true true false e = rw e (λ e. absurd (never NoCaller refl refl e))
+  event-clearing q true false w e = λ e. absurd (never ShortMemory refl refl e)
+  event-clearing q false u w e = λ e. absurd (never BadTables refl refl e)
 
 -- EBADALIGN and ENORADDR of 0x102 set the statistics address of the calling cpu to 0, and change nothing else.
 pub refused-statistics : RefusedStatistics

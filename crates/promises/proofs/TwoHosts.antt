@@ -9,7 +9,7 @@ use Rattle.rules.specs.Real.{valid}
 use Rattle.kept.proofs.Accepted.{Fresh, accepted-fresh, accepted-keeps}
 use Rattle.promises.specs.Words.{Passes, SameReal}
 use Rattle.promises.specs.Promises.{Demand-3}
-use Rattle.promises.proofs.Passing.{extents-stay}
+use Rattle.promises.proofs.Passing.{extents-kept}
 use Rattle.promises.proofs.Alone.{two-hosts}
 
 valid-same : (es fs : List Extent) → SameReal es fs → (a n : ℕ) → valid es a n ≡ valid fs a n
@@ -38,7 +38,7 @@ demand-3 bytes bytes′ tables tables′ memory memory′ accepted enough accept
     record {
       answers = ends .0;
       guest = ends .1;
-      extents = rw (extents-stay events tables memory p g, extents-stay events′ tables′ memory′ p′ g) (same .extents);
+      extents = rw (extents-kept events tables memory p g, extents-kept events′ tables′ memory′ p′ g) (same .extents);
     }
   where
     p : Passes tables memory

@@ -118,9 +118,9 @@ pub record SamePlant (tables tables′ : Tables) (memory memory′ : List ℕ) (
 -- "it gets the same answers (those of demand 2) and ends with the same records, host pages aside, and memory"
 pub record SameEnd (tables tables′ : Tables) (memory memory′ : List ℕ) (g : ℕ) (events events′ : List Event) : Type 0 where
   pub answers : ownAnswers (belongs tables g) tables memory events ≡ ownAnswers (belongs tables′ g) tables′ memory′ events′
-  -- all that its events can change: its record, and the byte at each real address
+  -- its record, extents aside, its valid ranges, and the byte at each real address
   pub guest : guestAfter tables memory g events ≡ guestAfter tables′ memory′ g events′
-  -- the rest of its record
+  -- its extents, host pages aside
   pub extents : SameReal (extentsOf (tablesAfter tables memory events) g) (extentsOf (tablesAfter tables′ memory′ events′) g)
 
 -- `demand-3`

@@ -1,1 +1,1 @@
-// No code: the theorems that the three demands ask for stand in proofs/, a file for each promise.
+// No code: the promises are written out in specs/, Promises.antt first, and the theorems that prove them stand in proofs/.
