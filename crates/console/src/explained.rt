@@ -103,7 +103,7 @@ fn line_end(piece: &[u8], from: usize) -> usize
 }
 
 // As answer_piece: no byte is lost.
-pub fn explain_piece(feeder: Feeder, mem: &mut [u8], piece: &[u8], out: &mut [u8]) -> Went
+pub(crate) fn explain_piece(feeder: Feeder, mem: &mut [u8], piece: &[u8], out: &mut [u8]) -> Went
     requires { ⌜ 96 ≤ length (now out) ⌝ }
     ensures { λ r. ⌜ (r .on ≡ true → AllFed feeder (now (mem .entry)) (now (piece .entry)) (r .feeder) (now (mem .exit))) ⌝ }
 {
@@ -142,7 +142,7 @@ pub fn explain_piece(feeder: Feeder, mem: &mut [u8], piece: &[u8], out: &mut [u8
 }
 
 // The end of the input answers a last line that has no line feed.
-pub fn explain_end(feeder: Feeder, mem: &mut [u8], out: &mut [u8])
+pub(crate) fn explain_end(feeder: Feeder, mem: &mut [u8], out: &mut [u8])
     requires { ⌜ 96 ≤ length (now out) ⌝ }
 {
     if feeder.held != 0 {

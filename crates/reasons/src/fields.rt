@@ -64,7 +64,7 @@ fn why_field(text: &[u8], k: usize) -> Why
 }
 
 // The fields behind the first word, which ends at `end`. `at` is always the place of the space before a field, or the line's end.
-pub fn why_fields(s: &[u8], end: usize, word: Word) -> Why
+pub(crate) fn why_fields(s: &[u8], end: usize, word: Word) -> Why
     requires { ⌜ end ≤ length (now s) ⌝ }
     ensures { λ r. ⌜ r ≡ told (whyFields word 0 (behind (drop end (now (s .entry))))) ⌝ }
 {

@@ -11,7 +11,7 @@ use text::NO_DIGIT;
 use text::digit_of;
 
 // The image that is left from the place from on. odd: a digit waits for the second one of its byte.
-pub fn why_image(s: &[u8], from: usize) -> Why
+pub(crate) fn why_image(s: &[u8], from: usize) -> Why
     requires { ⌜ from ≤ length (now s) ⌝ }
     ensures { λ r. ⌜ r ≡ told (whyImage (unspaced (drop from (now (s .entry))))) ⌝ }
 {

@@ -54,7 +54,7 @@ fn why_line(s: &[u8]) -> Why
     why_fields(s, end, word)
 }
 
-pub fn last_byte(s: &[u8]) -> u8
+pub(crate) fn last_byte(s: &[u8]) -> u8
     ensures { λ r. ⌜ r ≡ lastByte (now (s .entry)) ⌝ }
 {
     if s.len() == 0 {

@@ -8,7 +8,7 @@ ghost use Rattle.reasons.specs.Put.{Put};
 pub const ROOM: usize = 256;
 
 // Writes a text from the place at on, and gives the place behind it.
-pub fn put_text(text: &[u8], at: usize, out: &mut [u8; ROOM]) -> usize
+pub(crate) fn put_text(text: &[u8], at: usize, out: &mut [u8; ROOM]) -> usize
     requires { ⌜ at + length (now text) ≤ 256 ⌝ }
     ensures { λ r. ⌜ Put (now (out .entry)) (now (out .exit)) at r (now (text .entry)) ⌝ }
 {
@@ -21,7 +21,7 @@ pub fn put_text(text: &[u8], at: usize, out: &mut [u8; ROOM]) -> usize
 }
 
 // Writes a number in decimal, its leading digits first.
-pub fn put_decimal(n: usize, at: usize, out: &mut [u8; ROOM]) -> usize
+pub(crate) fn put_decimal(n: usize, at: usize, out: &mut [u8; ROOM]) -> usize
     requires { ⌜ at + length (decimal n) ≤ 256 ⌝ }
     ensures { λ r. ⌜ Put (now (out .entry)) (now (out .exit)) at r (decimal n) ⌝ }
 {

@@ -13,7 +13,7 @@ pub enum Number {
 }
 
 // The value of a digit.
-pub(crate) fn digit_of(b: u8) -> u8
+pub fn digit_of(b: u8) -> u8
     ensures { λ r. ⌜ r ≡ digitOr (digitOf b) ⌝ }
 {
     if (0x30 <= b) & (b <= 0x39) {
@@ -28,7 +28,7 @@ pub(crate) fn digit_of(b: u8) -> u8
     NO_DIGIT
 }
 
-pub(crate) fn read_number(text: &[u8]) -> Number
+pub fn read_number(text: &[u8]) -> Number
     ensures { λ r. ⌜ r ≡ numberOr (field (now (text .entry))) ⌝ }
 {
     if text.len() < 1 {

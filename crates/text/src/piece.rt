@@ -6,7 +6,7 @@ ghost use Rattle.rules.specs.Text.{same};
 ghost use Rattle.text.specs.Pieces.{firstLength};
 
 // The end of the piece that starts at the place at: the next space, or the line's end.
-pub(crate) fn piece_end(s: &[u8], at: usize) -> usize
+pub fn piece_end(s: &[u8], at: usize) -> usize
     requires { ⌜ at ≤ length (now s) ⌝ }
     ensures { λ r. ⌜ r ≡ at + firstLength (drop at (now (s .entry))) ⌝ }
 {
@@ -20,7 +20,7 @@ pub(crate) fn piece_end(s: &[u8], at: usize) -> usize
     i
 }
 
-pub(crate) fn same_text(a: &[u8], b: &[u8]) -> bool
+pub fn same_text(a: &[u8], b: &[u8]) -> bool
     ensures { λ r. ⌜ r ≡ same (now (a .entry)) (now (b .entry)) ⌝ }
 {
     if a.len() != b.len() {
