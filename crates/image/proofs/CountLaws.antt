@@ -11,7 +11,7 @@ use Rattle.rules.specs.declared.Refusal.{Refusal}
 use Rattle.rules.specs.declared.Refusal.the-variants.{ImageShort, ImageBad}
 use Rattle.rules.specs.Bits.{fieldAt, reaches}
 use Rattle.rules.specs.Rulings.{Ruling, refused, granted, _or-refuse_then_}
-use Rattle.rules.specs.Image.{countAt}
+use Rattle.rules.specs.Image.{_bits-at_of_from_to_}
 use Rattle.bits.specs.declared.Field.{Field}
 use Rattle.bits.specs.declared.Field.the-variants.{Value, Missing}
 use Rattle.bits.specs.Field.{fieldOf}
@@ -20,25 +20,25 @@ use Rattle.image.specs.declared.guest.Count.{Count}
 use Rattle.image.specs.Answers.{countAs}
 
 module _ (s : List ℕ) (at n lo hi : ℕ) (f : Field) (e : f ≡ fieldOf s at n) where
-  pub count-short : n ≤ 28 → f ≡ Missing → Count.Refused ImageShort ≡ countAs (countAt s at n lo hi)
-  unfolding countAt countAs
+  pub count-short : n ≤ 28 → f ≡ Missing → Count.Refused ImageShort ≡ countAs (n bits-at at of s from lo to hi)
+  unfolding _bits-at_of_from_to_ countAs
   count-short h m = rw (lt-leb (at + n) (8 * length s) (missing-tells s at n f h e m))
 
   module _ (v : ℕ) (m : f ≡ Value v) where
-    pub count-low : v < lo → Count.Refused ImageBad ≡ countAs (countAt s at n lo hi)
-    unfolding countAt countAs
+    pub count-low : v < lo → Count.Refused ImageBad ≡ countAs (n bits-at at of s from lo to hi)
+    unfolding _bits-at_of_from_to_ countAs
     count-low l =
         let t = value-tells s at n f v e m in
         rw (le-leb (at + n) (8 * length s) (t .0), ← t .1, lt-leb lo v l)
 
-    pub count-high : hi < v → Count.Refused ImageBad ≡ countAs (countAt s at n lo hi)
-    unfolding countAt countAs
+    pub count-high : hi < v → Count.Refused ImageBad ≡ countAs (n bits-at at of s from lo to hi)
+    unfolding _bits-at_of_from_to_ countAs
     count-high l =
         let t = value-tells s at n f v e m in
         rw (le-leb (at + n) (8 * length s) (t .0), ← t .1, lt-leb v hi l, and-false)
 
-    pub count-is : lo ≤ v → v ≤ hi → Count.Is v ≡ countAs (countAt s at n lo hi)
-    unfolding countAt countAs
+    pub count-is : lo ≤ v → v ≤ hi → Count.Is v ≡ countAs (n bits-at at of s from lo to hi)
+    unfolding _bits-at_of_from_to_ countAs
     count-is l h =
         let t = value-tells s at n f v e m in
         rw (le-leb (at + n) (8 * length s) (t .0), ← t .1, le-leb lo v l, le-leb v hi h)
@@ -61,11 +61,11 @@ within true true false n v e = (cc, cc)
 within true false w n v e = (cc, cc)
 within false u w n v e = (cc, cc)
 
-pub count-most : (s : List ℕ) (at n lo hi v : ℕ) → countAt s at n lo hi ≡ granted v → v ≤ hi
-unfolding countAt
+pub count-most : (s : List ℕ) (at n lo hi v : ℕ) → (n bits-at at of s from lo to hi) ≡ granted v → v ≤ hi
+unfolding _bits-at_of_from_to_
 count-most s at n lo hi v e =
     let w = within (reaches s (at + n)) (leb lo (fieldAt s at n)) (leb (fieldAt s at n) hi) (fieldAt s at n) v e in
     omega (arith, leb-true (fieldAt s at n) hi (w .0), w .1)
 
-pub is-most : (s : List ℕ) (at n lo hi : ℕ) (c : Count) (v : ℕ) → c ≡ countAs (countAt s at n lo hi) → c ≡ Count.Is v → v ≤ hi
-is-most s at n lo hi c v e q = count-most s at n lo hi v (is-tells c (countAt s at n lo hi) v e q)
+pub is-most : (s : List ℕ) (at n lo hi : ℕ) (c : Count) (v : ℕ) → c ≡ countAs (n bits-at at of s from lo to hi) → c ≡ Count.Is v → v ≤ hi
+is-most s at n lo hi c v e q = count-most s at n lo hi v (is-tells c (n bits-at at of s from lo to hi) v e q)

@@ -9,7 +9,8 @@ use Rattle.rules.specs.declared.Refusal.{Refusal}
 use Rattle.rules.specs.Limits.{guestLimit}
 use Rattle.rules.specs.Kept.{blankGuest}
 use Rattle.rules.specs.Rulings.{Ruling, refused, granted, _grants_}
-use Rattle.rules.specs.Image.{countAt, readGuest, readGuests, behind, judged, readImage}
+use Rattle.rules.specs.Widths.{editionWidth, guestsWidth, headerBits}
+use Rattle.rules.specs.Image.{_bits-at_of_from_to_, readGuest, readGuests, behind, judged, readImage}
 use Rattle.image.specs.declared.guest.Count.{Count}
 use Rattle.image.specs.declared.guest.Verdict.{Verdict}
 use Rattle.image.specs.declared.guest.GuestRead.{GuestRead}
@@ -19,20 +20,26 @@ use Rattle.image.proofs.CountLaws.{is-tells, refused-tells, count-most}
 use Rattle.image.proofs.GuestLaws.{guest-granted, guest-refused, grants-tells}
 
 -- the header
-module _ (s : List ℕ) (a : Count) (p : a ≡ countAs (countAt s 0 4 1 1)) where
+abbrev pub editionRead : List ℕ → Ruling ℕ
+editionRead s = editionWidth bits-at 0 of s from 1 to 1
+
+abbrev pub guestsRead : List ℕ → Ruling ℕ
+guestsRead s = guestsWidth bits-at editionWidth of s from 1 to guestLimit
+
+module _ (s : List ℕ) (a : Count) (p : a ≡ countAs (editionRead s)) where
   pub header-edition : (why : Refusal) → a ≡ Count.Refused why → Count.Refused why ≡ countAs (headerOf s)
   unfolding headerOf countAs
-  header-edition why m = rw (refused-tells a (countAt s 0 4 1 1) why p m)
+  header-edition why m = rw (refused-tells a (editionRead s) why p m)
 
-  pub header-guests : (x : ℕ) → a ≡ Count.Is x → (b : Count) → b ≡ countAs (countAt s 4 4 1 guestLimit) → b ≡ countAs (headerOf s)
+  pub header-guests : (x : ℕ) → a ≡ Count.Is x → (b : Count) → b ≡ countAs (guestsRead s) → b ≡ countAs (headerOf s)
   unfolding headerOf
-  header-guests x m b q = rw (is-tells a (countAt s 0 4 1 1) x p m) q
+  header-guests x m b q = rw (is-tells a (editionRead s) x p m) q
 
 -- the loop over guests
 abbrev pub Left : List ℕ → ℕ → ℕ → ℕ → List Guest → Type 0
-Left s n i at l = readGuests s n 8 0 (replicate guestLimit blankGuest) ≡ readGuests s (n - i) at i l
+Left s n i at l = readGuests s n headerBits 0 (replicate guestLimit blankGuest) ≡ readGuests s (n - i) at i l
 
-pub left-start : (s : List ℕ) (n : ℕ) (l : List Guest) → l ≡ replicate guestLimit blankGuest → Left s n 0 8 l
+pub left-start : (s : List ℕ) (n : ℕ) (l : List Guest) → l ≡ replicate guestLimit blankGuest → Left s n 0 headerBits l
 left-start s n l e =
     let z : n - 0 ≡ n = omega arith in
     rw (z, e)
@@ -48,11 +55,11 @@ module _ (s : List ℕ) (n i at : ℕ) (l : List Guest) (w : Left s n i at l) (h
   pub left-next : r .verdict ≡ Verdict.Granted → (q : ℕ) → q ≡ behind at (r .guest) → Left s n (i + 1) q (set l i (r .guest))
   left-next t q b = w ∙ one-left s n i at l h ∙ rw (guest-granted r (readGuest s at) e t, b)
 
-  left-refused : (why : Refusal) → r .verdict ≡ Verdict.Refused why → readGuests s n 8 0 (replicate guestLimit blankGuest) ≡ refused why
+  left-refused : (why : Refusal) → r .verdict ≡ Verdict.Refused why → readGuests s n headerBits 0 (replicate guestLimit blankGuest) ≡ refused why
   left-refused why t = w ∙ one-left s n i at l h ∙ rw (guest-refused r (readGuest s at) e why t)
 
 left-end : (s : List ℕ) (n i at : ℕ) (l : List Guest) → Left s n i at l → i ≤ n → n ≤ i
-    → readGuests s n 8 0 (replicate guestLimit blankGuest) ≡ granted (record { guest = l; end = at })
+    → readGuests s n headerBits 0 (replicate guestLimit blankGuest) ≡ granted (record { guest = l; end = at })
 unfolding readGuests
 left-end s n i at l w u v =
     let z : n - i ≡ 0 = omega arith in
@@ -61,7 +68,7 @@ left-end s n i at l w u v =
 -- the whole image
 pub header-most : (s : List ℕ) (a : Count) (n : ℕ) → a ≡ countAs (headerOf s) → a ≡ Count.Is n → n ≤ guestLimit
 unfolding headerOf
-header-most s a n p m = count-most s 4 4 1 guestLimit n (grants-tells (countAt s 0 4 1 1) _ n (is-tells a (headerOf s) n p m) .1 .1)
+header-most s a n p m = count-most s editionWidth guestsWidth 1 guestLimit n (grants-tells (editionRead s) _ n (is-tells a (headerOf s) n p m) .1 .1)
 
 module _ (s : List ℕ) (a : Count) (p : a ≡ countAs (headerOf s)) where
   pub fields-header : (why : Refusal) → a ≡ Count.Refused why → (o : Read) → o ≡ readAs (refused why) → o ≡ readAs (fieldsOf s)
@@ -93,8 +100,8 @@ pub fields-judged : (s : List ℕ) → readImage s ≡ (fieldsOf s grants λ fie
 unfolding readImage fieldsOf headerOf
 fields-judged s =
     judged-last
-    (countAt s 0 4 1 1)
-    (countAt s 4 4 1 guestLimit)
-    (λ n. readGuests s n 8 0 (replicate guestLimit blankGuest))
+    (editionRead s)
+    (guestsRead s)
+    (λ n. readGuests s n headerBits 0 (replicate guestLimit blankGuest))
     (λ n p. record { tables = record { guests = n; guest = p .guest }; end = p .end })
     (λ fields. judged s (fields .end) (fields .tables))

@@ -17,7 +17,8 @@ use Rattle.rules.specs.Limits.{cpuLimit, extentLimit, sourceLimit}
 use Rattle.rules.specs.Kept.{blankExtent, blankSource, blankCpu, blankGuest, noVersions}
 use Rattle.rules.specs.Bits.{reaches}
 use Rattle.rules.specs.Rulings.{Ruling, refused, granted, _or-refuse_then_, _grants_}
-use Rattle.rules.specs.Image.{countAt, readExtent, readSource, extentBits, sourceBits, filled, readLists, readGuest, behind}
+use Rattle.rules.specs.Widths.{cpusWidth, extentsWidth, sourcesWidth, countsBits, headerBits, extentBits, sourceBits}
+use Rattle.rules.specs.Image.{_bits-at_of_from_to_, readExtent, readSource, filled, readLists, readGuest, behind}
 use Rattle.image.specs.declared.guest.Count.{Count}
 use Rattle.image.specs.declared.guest.Verdict.{Verdict}
 use Rattle.image.specs.declared.guest.GuestRead.{GuestRead}
@@ -49,26 +50,35 @@ module _ (s : List ℕ) (at cpus extents sources end : ℕ) (p : end ≡ at + ex
       rw (le-leb (at + extentBits * extents + sourceBits * sources) (8 * length s) l, a, b, d, e)
 
 -- the three counts, and the lists behind them
-module _ (s : List ℕ) (at : ℕ) (r : GuestRead) (a : Count) (p : a ≡ countAs (countAt s at 4 1 cpuLimit)) where
+abbrev pub cpusRead : List ℕ → ℕ → Ruling ℕ
+cpusRead s at = cpusWidth bits-at at of s from 1 to cpuLimit
+
+abbrev pub extentsRead : List ℕ → ℕ → Ruling ℕ
+extentsRead s at = extentsWidth bits-at (at + cpusWidth) of s from 1 to extentLimit
+
+abbrev pub sourcesRead : List ℕ → ℕ → Ruling ℕ
+sourcesRead s at = sourcesWidth bits-at (at + (cpusWidth + extentsWidth)) of s from 0 to sourceLimit
+
+module _ (s : List ℕ) (at : ℕ) (r : GuestRead) (a : Count) (p : a ≡ countAs (cpusRead s at)) where
   pub guest-cpus : (why : Refusal) → r ≡ guestAs (refused why) → a ≡ Count.Refused why → r ≡ guestAs (readGuest s at)
   unfolding readGuest
-  guest-cpus why n m = rw (refused-tells a (countAt s at 4 1 cpuLimit) why p m) n
+  guest-cpus why n m = rw (refused-tells a (cpusRead s at) why p m) n
 
-  module _ (x : ℕ) (m₁ : a ≡ Count.Is x) (b : Count) (q : b ≡ countAs (countAt s (at + 4) 3 1 extentLimit)) where
+  module _ (x : ℕ) (m₁ : a ≡ Count.Is x) (b : Count) (q : b ≡ countAs (extentsRead s at)) where
     pub guest-extents : (why : Refusal) → r ≡ guestAs (refused why) → b ≡ Count.Refused why → r ≡ guestAs (readGuest s at)
     unfolding readGuest
-    guest-extents why n m = rw (is-tells a (countAt s at 4 1 cpuLimit) x p m₁, refused-tells b (countAt s (at + 4) 3 1 extentLimit) why q m) n
+    guest-extents why n m = rw (is-tells a (cpusRead s at) x p m₁, refused-tells b (extentsRead s at) why q m) n
 
-    module _ (y : ℕ) (m₂ : b ≡ Count.Is y) (c : Count) (t : c ≡ countAs (countAt s (at + 7) 5 0 sourceLimit)) where
+    module _ (y : ℕ) (m₂ : b ≡ Count.Is y) (c : Count) (t : c ≡ countAs (sourcesRead s at)) where
       pub guest-sources : (why : Refusal) → r ≡ guestAs (refused why) → c ≡ Count.Refused why → r ≡ guestAs (readGuest s at)
       unfolding readGuest
       guest-sources why n m =
-          rw (is-tells a (countAt s at 4 1 cpuLimit) x p m₁, is-tells b (countAt s (at + 4) 3 1 extentLimit) y q m₂, refused-tells c (countAt s (at + 7) 5 0 sourceLimit) why t m) n
+          rw (is-tells a (cpusRead s at) x p m₁, is-tells b (extentsRead s at) y q m₂, refused-tells c (sourcesRead s at) why t m) n
 
-      pub guest-lists : (z : ℕ) → c ≡ Count.Is z → r ≡ guestAs (readLists s (at + 12) x y z) → r ≡ guestAs (readGuest s at)
+      pub guest-lists : (z : ℕ) → c ≡ Count.Is z → r ≡ guestAs (readLists s (at + countsBits) x y z) → r ≡ guestAs (readGuest s at)
       unfolding readGuest
       guest-lists z m n =
-          rw (is-tells a (countAt s at 4 1 cpuLimit) x p m₁, is-tells b (countAt s (at + 4) 3 1 extentLimit) y q m₂, is-tells c (countAt s (at + 7) 5 0 sourceLimit) z t m) n
+          rw (is-tells a (cpusRead s at) x p m₁, is-tells b (extentsRead s at) y q m₂, is-tells c (sourcesRead s at) z t m) n
 
 -- what a verdict tells of the ruling, for a guest as for the whole image
 pub refused-says : {A : Type 0} (m : Ruling A) (v : Verdict) (why : Refusal) → v ≡ verdictOf m → v ≡ Verdict.Refused why → m ≡ refused why
@@ -107,16 +117,16 @@ lists-counts s at x y z g e =
 guest-small : (s : List ℕ) (at : ℕ) (g : Guest) → readGuest s at ≡ granted g → (g .extents .count ≤ extentLimit) × (g .plant .sources ≤ sourceLimit)
 unfolding readGuest
 guest-small s at g e =
-    let u = grants-tells (countAt s at 4 1 cpuLimit) _ g e in
-    let v = grants-tells (countAt s (at + 4) 3 1 extentLimit) _ g (u .1 .1) in
-    let w = grants-tells (countAt s (at + 7) 5 0 sourceLimit) _ g (v .1 .1) in
-    let l = lists-counts s (at + 12) (u .0) (v .0) (w .0) g (w .1 .1) in
-    (omega (arith, count-most s (at + 4) 3 1 extentLimit (v .0) (v .1 .0)), omega (arith, count-most s (at + 7) 5 0 sourceLimit (w .0) (w .1 .0)))
+    let u = grants-tells (cpusRead s at) _ g e in
+    let v = grants-tells (extentsRead s at) _ g (u .1 .1) in
+    let w = grants-tells (sourcesRead s at) _ g (v .1 .1) in
+    let l = lists-counts s (at + countsBits) (u .0) (v .0) (w .0) g (w .1 .1) in
+    (omega (arith, count-most s (at + cpusWidth) extentsWidth 1 extentLimit (v .0) (v .1 .0)), omega (arith, count-most s (at + (cpusWidth + extentsWidth)) sourcesWidth 0 sourceLimit (w .0) (w .1 .0)))
 
 -- so its bits are at most these
 abbrev pub guestBits : ℕ
-guestBits = 12 + extentBits * extentLimit + sourceBits * sourceLimit
+guestBits = countsBits + extentBits * extentLimit + sourceBits * sourceLimit
 
 pub behind-most : (s : List ℕ) (at : ℕ) (r : GuestRead) → r ≡ guestAs (readGuest s at) → r .verdict ≡ Verdict.Granted
-    → (b i : ℕ) → b ≡ behind at (r .guest) → at ≤ 8 + guestBits * i → b ≤ 8 + guestBits * (i + 1)
+    → (b i : ℕ) → b ≡ behind at (r .guest) → at ≤ headerBits + guestBits * i → b ≤ headerBits + guestBits * (i + 1)
 behind-most s at r e t b i q h = omega (arith, guest-small s at (r .guest) (guest-granted r (readGuest s at) e t))

@@ -7,7 +7,8 @@ use Rattle.rules.specs.declared.Tables.{Tables}
 use Rattle.rules.specs.Limits.{guestLimit}
 use Rattle.rules.specs.Kept.{blankGuest, noGuests}
 use Rattle.rules.specs.Rulings.{Ruling, refused, granted, _grants_}
-use Rattle.rules.specs.Image.{countAt, readGuests}
+use Rattle.rules.specs.Widths.{editionWidth, guestsWidth, headerBits}
+use Rattle.rules.specs.Image.{_bits-at_of_from_to_, readGuests}
 use Rattle.image.specs.declared.guest.Count.{Count}
 use Rattle.image.specs.declared.guest.Verdict.{Verdict}
 use Rattle.image.specs.declared.guest.GuestRead.{GuestRead}
@@ -41,14 +42,14 @@ pub record Fields : Type 0 where
 -- the header: edition 1, and the number of guests
 unfoldable pub headerOf : List ℕ → Ruling ℕ
 headerOf bytes =
-    countAt bytes 0 4 1 1 grants λ edition.
-    countAt bytes 4 4 1 guestLimit
+    editionWidth bits-at 0 of bytes from 1 to 1 grants λ edition.
+    guestsWidth bits-at editionWidth of bytes from 1 to guestLimit
 
 -- the whole image, up to the rules that are tried after the last field
 unfoldable pub fieldsOf : List ℕ → Ruling Fields
 fieldsOf bytes =
     headerOf bytes grants λ guests.
-    readGuests bytes guests 8 0 (replicate guestLimit blankGuest) grants λ partition.
+    readGuests bytes guests headerBits 0 (replicate guestLimit blankGuest) grants λ partition.
     granted (record { tables = record { guests = guests; guest = partition .guest }; end = partition .end })
 
 abbrev pub noFields : Fields

@@ -4,7 +4,8 @@ ghost use Prim.Native.Nat.{_+_, _*_, _^_, _<_, _≤_};
 ghost use Rattle.rules.specs.Limits.{extentLimit, sourceLimit};
 ghost use Rattle.rules.specs.Kept.{blankExtent, blankSource};
 ghost use Rattle.rules.specs.Rulings.{refused};
-ghost use Rattle.rules.specs.Image.{countAt, readExtent, extentBits, readSource, sourceBits, filled, readLists, readGuest};
+ghost use Rattle.rules.specs.Widths.{countsBits, extentBits, sourceBits};
+ghost use Rattle.rules.specs.Image.{_bits-at_of_from_to_, readExtent, readSource, filled, readLists, readGuest};
 ghost use Rattle.image.specs.Answers.{there, countAs, guestAs};
 use bits::Field;
 use records::blank;
@@ -17,11 +18,31 @@ use rules::Plant;
 use rules::Refusal;
 use rules::SOURCES;
 use rules::Source;
+use rules::widths::COOKIE_SUPPORT_WIDTH;
+use rules::widths::COUNTS_BITS;
+use rules::widths::CPUS_WIDTH;
+use rules::widths::DEVHANDLE_WIDTH;
+use rules::widths::DEVINO_WIDTH;
+use rules::widths::EXTENT_BITS;
+use rules::widths::EXTENTS_WIDTH;
+use rules::widths::HOST_PAGE_WIDTH;
+use rules::widths::PAGE_COUNT_WIDTH;
+use rules::widths::REAL_PAGE_WIDTH;
+use rules::widths::SOURCE_BITS;
+use rules::widths::SOURCES_WIDTH;
 
-// An extent is 28 + 16 + 16 bits, and a source 28 + 7 + 1.
-const EXTENT_BITS: u64 = 60;
+// Where a field stands in its part.
+const EXTENTS_AT: u64 = CPUS_WIDTH as u64;
 
-const SOURCE_BITS: u64 = 36;
+const SOURCES_AT: u64 = (CPUS_WIDTH + EXTENTS_WIDTH) as u64;
+
+const PAGE_COUNT_AT: u64 = REAL_PAGE_WIDTH as u64;
+
+const HOST_PAGE_AT: u64 = (REAL_PAGE_WIDTH + PAGE_COUNT_WIDTH) as u64;
+
+const DEVINO_AT: u64 = DEVHANDLE_WIDTH as u64;
+
+const COOKIE_SUPPORT_AT: u64 = (DEVHANDLE_WIDTH + DEVINO_WIDTH) as u64;
 
 // A count, or why the image is refused.
 pub enum Count {
@@ -43,7 +64,7 @@ pub struct GuestRead {
 // The n bits from bit `at` on, which are from lo to hi.
 pub(crate) fn read_count(s: &[u8], at: u64, n: u32, lo: u8, hi: u8) -> Count
     requires { ⌜ n ≤ 28 ⌝ }
-    ensures { λ r. ⌜ r ≡ countAs (countAt (now (s .entry)) at n lo hi) ⌝ }
+    ensures { λ r. ⌜ r ≡ countAs (n bits-at at of now (s .entry) from lo to hi) ⌝ }
 {
     let field = bits::field_at(s, at, n);
     let Field::Value(v) = field else {
@@ -64,9 +85,9 @@ fn read_extent(s: &[u8], at: u64) -> Extent
     ensures { λ r. ⌜ r ≡ readExtent (now (s .entry)) at ⌝ }
 {
     Extent {
-        real: bits::number_at(s, at, 28),
-        count: bits::number_at(s, at + 28, 16) as u16,
-        host: bits::number_at(s, at + 44, 16) as u16,
+        real: bits::number_at(s, at, REAL_PAGE_WIDTH),
+        count: bits::number_at(s, at + PAGE_COUNT_AT, PAGE_COUNT_WIDTH) as u16,
+        host: bits::number_at(s, at + HOST_PAGE_AT, HOST_PAGE_WIDTH) as u16,
     }
 }
 
@@ -76,9 +97,9 @@ fn read_source(s: &[u8], at: u64) -> Source
     ensures { λ r. ⌜ r ≡ readSource (now (s .entry)) at ⌝ }
 {
     let mut source = blank::source();
-    source.devhandle = bits::number_at(s, at, 28);
-    source.devino = bits::number_at(s, at + 28, 7) as u8;
-    source.cookies = bits::number_at(s, at + 35, 1) == 1;
+    source.devhandle = bits::number_at(s, at, DEVHANDLE_WIDTH);
+    source.devino = bits::number_at(s, at + DEVINO_AT, DEVINO_WIDTH) as u8;
+    source.cookies = bits::number_at(s, at + COOKIE_SUPPORT_AT, COOKIE_SUPPORT_WIDTH) == 1;
     source
 }
 
@@ -132,9 +153,9 @@ fn behind_lists(at: u64, extents: u8, sources: u8) -> u64
 // The bit behind a guest that starts at bit `at`.
 pub(crate) fn behind(at: u64, extents: u8, sources: u8) -> u64
     requires { ⌜ at < 2 ^ 31 ⌝ }
-    ensures { λ r. ⌜ r ≡ at + 12 + extentBits * extents + sourceBits * sources ⌝ }
+    ensures { λ r. ⌜ r ≡ at + countsBits + extentBits * extents + sourceBits * sources ⌝ }
 {
-    behind_lists(at + 12, extents, sources)
+    behind_lists(at + COUNTS_BITS, extents, sources)
 }
 
 // A guest's lists from bit `at` on, behind its three counts. Their bits are all there, or none of them is read.
@@ -171,26 +192,26 @@ pub(crate) fn read_guest(s: &[u8], at: u64) -> GuestRead
     requires { ⌜ at < 2 ^ 31 ⌝ }
     ensures { λ r. ⌜ r ≡ guestAs (readGuest (now (s .entry)) at) ⌝ }
 {
-    let a = read_count(s, at, 4, 1, CPUS as u8);
+    let a = read_count(s, at, CPUS_WIDTH, 1, CPUS as u8);
     let cpus = match a {
         Count::Refused(why) => {
             return guest_refused(why);
         }
         Count::Is(n) => n,
     };
-    let b = read_count(s, at + 4, 3, 1, EXTENTS as u8);
+    let b = read_count(s, at + EXTENTS_AT, EXTENTS_WIDTH, 1, EXTENTS as u8);
     let extents = match b {
         Count::Refused(why) => {
             return guest_refused(why);
         }
         Count::Is(n) => n,
     };
-    let c = read_count(s, at + 7, 5, 0, SOURCES as u8);
+    let c = read_count(s, at + SOURCES_AT, SOURCES_WIDTH, 0, SOURCES as u8);
     let sources = match c {
         Count::Refused(why) => {
             return guest_refused(why);
         }
         Count::Is(n) => n,
     };
-    read_lists(s, at + 12, cpus, extents, sources)
+    read_lists(s, at + COUNTS_BITS, cpus, extents, sources)
 }

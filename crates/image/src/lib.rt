@@ -14,6 +14,12 @@ use rules::GUESTS;
 use rules::Loaded;
 use rules::Refusal;
 use rules::Tables;
+use rules::widths::EDITION_WIDTH;
+use rules::widths::GUESTS_WIDTH;
+use rules::widths::HEADER_BITS;
+
+// Where the number of guests stands.
+const GUESTS_AT: u64 = EDITION_WIDTH as u64;
 
 // What the fields of an image say: the tables, and the bit behind the last field. An image that is refused has no guest.
 struct Read {
@@ -36,10 +42,10 @@ fn read_refused(why: Refusal) -> Read
 fn read_header(s: &[u8]) -> Count
     ensures { λ r. ⌜ r ≡ countAs (headerOf (now (s .entry))) ⌝ }
 {
-    let edition = guest::read_count(s, 0, 4, 1, 1);
+    let edition = guest::read_count(s, 0, EDITION_WIDTH, 1, 1);
     match edition {
         Count::Refused(why) => Count::Refused(why),
-        Count::Is(_) => guest::read_count(s, 4, 4, 1, GUESTS as u8),
+        Count::Is(_) => guest::read_count(s, GUESTS_AT, GUESTS_WIDTH, 1, GUESTS as u8),
     }
 }
 
@@ -55,7 +61,7 @@ fn read_fields(s: &[u8]) -> Read
         Count::Is(n) => n,
     };
     let mut guest = blank::guests();
-    let mut at: u64 = 8;
+    let mut at: u64 = HEADER_BITS;
     let mut i: u8 = 0;
     while i < guests {
         let next = guest::read_guest(s, at);

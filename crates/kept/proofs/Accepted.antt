@@ -20,14 +20,16 @@ use Rattle.rules.specs.Kept.{blankExtent, blankCpu, blankSource, blankGuest, ho
 use Rattle.rules.specs.Bits.{fieldAt, reaches}
 use Rattle.rules.specs.Real.{valid}
 use Rattle.rules.specs.Rulings.{Ruling, refused, granted, _or-refuse_then_, if_then_else_}
-use Rattle.rules.specs.Image.{extentBits, sourceBits, countAt, filled, readExtent, readSource, readLists, readGuest, Partition, readGuests, behind, extentsRight, extentRight, ascend, pagesShared, sourceTwice, filledOut, judged, readImage, loadedAs, load}
+use Rattle.rules.specs.Widths.{editionWidth, guestsWidth, headerBits, cpusWidth, extentsWidth, sourcesWidth, countsBits, extentBits, devhandleWidth, devinoWidth, sourceBits}
+use Rattle.rules.specs.Image.{_bits-at_of_from_to_, filled, readExtent, readSource, readLists, readGuest, Partition, readGuests, behind, extentsRight, extentRight, ascend, pagesShared, sourceTwice, filledOut, judged, readImage, loadedAs, load}
 use Rattle.rules.specs.Tables.{listRight, cpuBlank, cpuRight, sourceBlank, sourceRight, cookieRight, enabledRight, versionsRight, extentBlank, extentsKeep, plantKeeps, guestKeeps, guestBlank, keepRules}
 use Rattle.rules.proofs.Computing.{computing}
 use Rattle.rules.proofs.Scan.{all-at, all-of}
 use Rattle.rules.proofs.Tests.{and-left, and-right}
 use Rattle.bits.proofs.FieldLaws.{field-lt}
 use Rattle.partition.proofs.Filled.{fill-at}
-use Rattle.image.proofs.GuestLaws.{grants-tells}
+use Rattle.image.proofs.GuestLaws.{cpusRead, extentsRead, sourcesRead, grants-tells}
+use Rattle.image.proofs.FieldsLaws.{editionRead, guestsRead}
 
 -- What a ruling that grants tells.
 
@@ -43,12 +45,12 @@ pub granted-same : {A : Type 0} (a b : A) → granted a ≡ granted b → a ≡ 
 granted-same a b e = cc
 
 -- a count lies within its limits
-module _ (bytes : List ℕ) (at n lo hi v : ℕ) (e : countAt bytes at n lo hi ≡ granted v) where
+module _ (bytes : List ℕ) (at n lo hi v : ℕ) (e : (n bits-at at of bytes from lo to hi) ≡ granted v) where
   abbrev limits : Bool
   limits = leb lo (fieldAt bytes at n) && leb (fieldAt bytes at n) hi
 
   counted : (limits or-refuse ImageBad then granted (fieldAt bytes at n)) ≡ granted v
-  unfolding countAt
+  unfolding _bits-at_of_from_to_
   counted = then-rest (reaches bytes (at + n)) ImageShort (limits or-refuse ImageBad then granted (fieldAt bytes at n)) v e
 
   count-limits : limits ≡ true
@@ -132,13 +134,13 @@ module _ (bytes : List ℕ) (at cpus extents sources : ℕ) (c0 : 1 ≤ cpus) (c
 read-guest-fresh : (bytes : List ℕ) (at : ℕ) (g : Guest) → readGuest bytes at ≡ granted g → Fresh g
 unfolding readGuest
 read-guest-fresh bytes at g e =
-    let a = grants-tells (countAt bytes at 4 1 cpuLimit) _ g e in
-    let b = grants-tells (countAt bytes (at + 4) 3 1 extentLimit) _ g (a .1 .1) in
-    let c = grants-tells (countAt bytes (at + 7) 5 0 sourceLimit) _ g (b .1 .1) in
-    read-lists-fresh bytes (at + 12) (a .0) (b .0) (c .0)
-    (count-least bytes at 4 1 cpuLimit (a .0) (a .1 .0)) (count-most bytes at 4 1 cpuLimit (a .0) (a .1 .0))
-    (count-least bytes (at + 4) 3 1 extentLimit (b .0) (b .1 .0)) (count-most bytes (at + 4) 3 1 extentLimit (b .0) (b .1 .0))
-    (count-most bytes (at + 7) 5 0 sourceLimit (c .0) (c .1 .0)) g (c .1 .1)
+    let a = grants-tells (cpusRead bytes at) _ g e in
+    let b = grants-tells (extentsRead bytes at) _ g (a .1 .1) in
+    let c = grants-tells (sourcesRead bytes at) _ g (b .1 .1) in
+    read-lists-fresh bytes (at + countsBits) (a .0) (b .0) (c .0)
+    (count-least bytes at cpusWidth 1 cpuLimit (a .0) (a .1 .0)) (count-most bytes at cpusWidth 1 cpuLimit (a .0) (a .1 .0))
+    (count-least bytes (at + cpusWidth) extentsWidth 1 extentLimit (b .0) (b .1 .0)) (count-most bytes (at + cpusWidth) extentsWidth 1 extentLimit (b .0) (b .1 .0))
+    (count-most bytes (at + (cpusWidth + extentsWidth)) sourcesWidth 0 sourceLimit (c .0) (c .1 .0)) g (c .1 .1)
 
 -- Such a guest keeps the rules.
 
@@ -168,7 +170,8 @@ no-versions = refl
 
 source-right : (plant : Plant) (bytes : List ℕ) (at : ℕ) → sourceRight plant (readSource bytes at) ≡ true
 unfolding sourceRight cookieRight enabledRight
-source-right plant bytes at = rw (lt-ltb (fieldAt bytes at 28) devhandles (field-lt bytes at 28), lt-ltb (fieldAt bytes (at + 28) 7) devinos (field-lt bytes (at + 28) 7))
+source-right plant bytes at =
+    rw (lt-ltb (fieldAt bytes at devhandleWidth) devhandles (field-lt bytes at devhandleWidth), lt-ltb (fieldAt bytes (at + devhandleWidth) devinoWidth) devinos (field-lt bytes (at + devhandleWidth) devinoWidth))
 
 module _ (v : ℕ → ℕ → Bool) (g : Guest) (f : Fresh g) where
   abbrev p : Plant
@@ -307,15 +310,15 @@ accepted-read : (bytes : List ℕ) (tables : Tables) → readImage bytes ≡ gra
     → (end : ℕ) × (judged bytes end tables ≡ granted tables) × (tables .guests ≤ guestLimit) × Around (replicate guestLimit blankGuest) (tables .guest) 0 (tables .guests)
 unfolding readImage
 accepted-read bytes tables e =
-    let a = grants-tells (countAt bytes 0 4 1 1) _ tables e in
-    let b = grants-tells (countAt bytes 4 4 1 guestLimit) _ tables (a .1 .1) in
-    let c = grants-tells (readGuests bytes (b .0) 8 0 (replicate guestLimit blankGuest)) _ tables (b .1 .1) in
-    let most : b .0 ≤ guestLimit = count-most bytes 4 4 1 guestLimit (b .0) (b .1 .0) in
+    let a = grants-tells (editionRead bytes) _ tables e in
+    let b = grants-tells (guestsRead bytes) _ tables (a .1 .1) in
+    let c = grants-tells (readGuests bytes (b .0) headerBits 0 (replicate guestLimit blankGuest)) _ tables (b .1 .1) in
+    let most : b .0 ≤ guestLimit = count-most bytes editionWidth guestsWidth 1 guestLimit (b .0) (b .1 .0) in
     let room : 0 + b .0 ≤ length (replicate guestLimit blankGuest) = simp length-replicate (omega arith) in
     let t : Tables = record { guests = b .0; guest = c .0 .guest } in
     let same : t ≡ tables = judged-same bytes (c .0 .end) t tables (c .1 .1) in
     subst (λ (r : Tables). (end : ℕ) × (judged bytes end r ≡ granted r) × (r .guests ≤ guestLimit) × Around (replicate guestLimit blankGuest) (r .guest) 0 (r .guests)) same
-    (c .0 .end, c .1 .1 ∙ ap granted (sym same), most, read-around bytes (b .0) 8 0 (replicate guestLimit blankGuest) (c .0) room (c .1 .0))
+    (c .0 .end, c .1 .1 ∙ ap granted (sym same), most, read-around bytes (b .0) headerBits 0 (replicate guestLimit blankGuest) (c .0) room (c .1 .0))
 
 -- its guests are as they were read
 pub accepted-fresh : (bytes : List ℕ) (tables : Tables) → readImage bytes ≡ granted tables → (g : ℕ) → g < tables .guests → Fresh (guestAt tables g)

@@ -16,8 +16,8 @@ use Rattle.rules.specs.Limits.{tsbLimit}
 use Rattle.rules.specs.Kept.{cpuAt, blankTsb, blankTsbs, cpuWithCtx0, withCtx0, cpuWithCtxnon0, withCtxnon0, cpuWithStatistics, withStatistics}
 use Rattle.rules.specs.Real.{Sight}
 use Rattle.rules.specs.Rulings.{Ruling, refused, granted, accepts, done, _or-refuse_then_, _grants_, if_then_else_}
-use Rattle.rules.specs.Queues.{powerFrom}
-use Rattle.rules.specs.Tsb.{descriptorAt, isPageIndex, insideMask, isLowest, judgedTsb, descriptors, newTsbs, mmu-tsb-ctx0, mmu-tsb-ctxnon0}
+use Rattle.rules.specs.Scan.{power-of-two_from_to_}
+use Rattle.rules.specs.Tsb.{descriptorAt, isPageIndex, _is-inside_, isLowest, judgedTsb, descriptors, newTsbs, mmu-tsb-ctx0, mmu-tsb-ctxnon0}
 use Rattle.rules.specs.Memory.{newStatistics, setOrClear, mmustat-conf}
 use Rattle.rules.specs.Tables.{tsbBlank, tsbsRight, plantKeeps}
 use Rattle.rules.proofs.Computing.{computing}
@@ -33,13 +33,13 @@ judged-itself v t r e =
     let range : Ruling Tsb = v (t .base) (16 * t .entries) or-refuse ENORADDR then granted t in
     let align : Ruling Tsb = eqb (t .base % (16 * t .entries)) 0 or-refuse EBADALIGN then range in
     let index : Ruling Tsb = (eqb (t .context) 0 && isLowest (t .mask) (t .index)) or-refuse EINVAL then align in
-    let ways : Ruling Tsb = (eqb (t .associativity) 1 && powerFrom 512 12 (t .entries)) or-refuse EBADTSB then index in
+    let ways : Ruling Tsb = (eqb (t .associativity) 1 && (power-of-two t .entries from 512 to 1_048_576)) or-refuse EBADTSB then index in
     granted-same t r
     (then-rest (v (t .base) (16 * t .entries)) ENORADDR (granted t) r
     (then-rest (eqb (t .base % (16 * t .entries)) 0) EBADALIGN range r
     (then-rest (eqb (t .context) 0 && isLowest (t .mask) (t .index)) EINVAL align r
-    (then-rest (eqb (t .associativity) 1 && powerFrom 512 12 (t .entries)) EBADTSB index r
-    (then-rest (isPageIndex (t .index) && (not (eqb (t .mask) 0) && insideMask (t .mask))) EBADPGSZ ways r e)))))
+    (then-rest (eqb (t .associativity) 1 && (power-of-two t .entries from 512 to 1_048_576)) EBADTSB index r
+    (then-rest (isPageIndex (t .index) && (not (eqb (t .mask) 0) && (t .mask is-inside 0x2b))) EBADPGSZ ways r e)))))
 
 judged-accepts : (v : ℕ → ℕ → Bool) (t r : Tsb) → judgedTsb v t ≡ granted r → accepts (judgedTsb v r) ≡ true
 judged-accepts v t r e = rw (← judged-itself v t r e, e)

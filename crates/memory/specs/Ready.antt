@@ -1,15 +1,10 @@
 -- What the tables' checks (101 and 102) tell of a guest's extents and the host's memory, as facts.
 use Prim.Native.Nat.{ℕ, _+_, _*_, _≤_}
 use mathlib.Core.List.{List, [], _∷_}
-use lib.ListN.{take}
 use Rattle.rules.specs.declared.Extent.{Extent}
-use Rattle.rules.specs.declared.Extents.{Extents}
 use Rattle.rules.specs.Limits.{pageSize}
+pub use Rattle.rules.specs.Kept.{present}
 use Rattle.rules.specs.Real.{low, high}
-
--- the extents that are there
-abbrev pub present : Extents → List Extent
-present extents = take (extents .count) (extents .list)
 
 -- every extent of the list starts at or past the end of x
 abbrev pub After : Extent → List Extent → Type 0

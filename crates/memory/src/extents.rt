@@ -2,6 +2,7 @@
 use rules::Extent;
 use rules::Extents;
 use rules::Host;
+use rules::PAGE_SIZE;
 use rules::Place;
 use rules::Real;
 ghost use mathlib.Core.Path.{_≡_};
@@ -11,8 +12,7 @@ ghost use Rattle.rules.specs.Limits.{extentLimit};
 ghost use Rattle.rules.specs.Real.{low, high, hostOffset, holds, valid, located};
 ghost use Rattle.memory.specs.Ready.{present};
 
-// The bytes of a page, as specs/Limits.antt of rules has them.
-const PAGE: u64 = 8192;
+const PAGE: u64 = PAGE_SIZE as u64;
 
 // Whether the whole range lies in the extent. No sum of base and len is made, so none can wrap.
 fn inside(x: Extent, base: u64, len: u64) -> bool

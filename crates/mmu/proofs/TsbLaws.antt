@@ -21,8 +21,8 @@ use Rattle.rules.specs.Limits.{cpuLimit}
 use Rattle.rules.specs.Kept.{blankTsbs}
 use Rattle.rules.specs.Real.{Sight, sightOf, numberOf}
 use Rattle.rules.specs.Rulings.{Ruling, refused, granted, _grants_, done, outcomeOf}
-use Rattle.rules.specs.Queues.{powerFrom}
-use Rattle.rules.specs.Tsb.{descriptorAt, isPageIndex, insideMask, isLowest, judgedTsb, descriptors, newTsbs}
+use Rattle.rules.specs.Scan.{power-of-two_from_to_}
+use Rattle.rules.specs.Tsb.{descriptorAt, isPageIndex, _is-inside_, isLowest, judgedTsb, descriptors, newTsbs}
 use Rattle.memory.specs.Ready.{present}
 use Rattle.records.specs.declared.Verdict.{Verdict}
 use Rattle.records.specs.declared.Verdict.the-variants.{Right, Refused as Told}
@@ -40,11 +40,11 @@ use Rattle.mmu.specs.Lists.{listed, settledBy, setTsbs}
 
 -- a descriptor that is right is granted as it was read
 module _ (v : ℕ → ℕ → Bool) (t : Tsb) (e : verdictOf (judgedTsb v t) ≡ Right) where
-  sizes-told : (isPageIndex (t .index) && (not (eqb (t .mask) 0) && insideMask (t .mask))) ≡ true
+  sizes-told : (isPageIndex (t .index) && (not (eqb (t .mask) 0) && (t .mask is-inside 0x2b))) ≡ true
   unfolding judgedTsb
   sizes-told = told-then _ _ _ e
 
-  entries-told : (eqb (t .associativity) 1 && powerFrom 512 12 (t .entries)) ≡ true
+  entries-told : (eqb (t .associativity) 1 && (power-of-two t .entries from 512 to 1_048_576)) ≡ true
   unfolding judgedTsb
   entries-told = told-then _ _ _ (rw sizes-told at e)
 

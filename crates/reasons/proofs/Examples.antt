@@ -7,7 +7,7 @@ use Prim.Native.String.{String, _++_}
 use lib.ListN.{replicate}
 use Rattle.text.specs.Pieces.{firstLength}
 use Rattle.rules.proofs.Computing.{computing}
-use Rattle.rules.proofs.WorkedText.{bytesOf}
+use Rattle.rules.specs.Text.{bytesOf}
 use Rattle.reasons.specs.declared.fault.Word.the-variants.{Call, Head}
 use Rattle.reasons.specs.declared.fault.Fault.{Fault}
 use Rattle.reasons.specs.declared.fault.Fault.the-variants.{TooLong, CarriageReturn, OtherWord, EmptyField, NoNumber, TooFew, TooMany, NoDigit, OddDigits}
@@ -16,7 +16,7 @@ use Rattle.reasons.specs.Words.{meanings, meaningIn, decimalOf, form, fa
 
 -- every definition of the reasons, and of the rules, computes
 unfoldable explaining : Unit {0}
-unfolding computing bytesOf firstLength wordOf whyField whyCount whyFields whyImage whyLine lastByte whyBad meanings meaningIn decimalOf form faultText whyText statusText unfed reasonBy reason
+unfolding computing firstLength wordOf whyField whyCount whyFields whyImage whyLine lastByte whyBad meanings meaningIn decimalOf form faultText whyText statusText unfed reasonBy reason
 explaining = tt
 
 abbrev why : String → Option Fault

@@ -10,9 +10,8 @@ use lib.ListN.{length, take, length-append}
 use lib.Seq.{length-take-le, length-sets}
 use borrow.Author.Tests.{leb-true}
 use Rattle.rules.specs.Rulings.{if_then_else_}
-use Rattle.rules.specs.Text.{badWord, same, field}
+use Rattle.rules.specs.Text.{bytesOf, badWord, same, field}
 use Rattle.rules.proofs.Tests.{and-left, and-right}
-use Rattle.rules.proofs.WorkedText.{bytesOf}
 use Rattle.reasons.specs.declared.fault.Word.{Word}
 use Rattle.reasons.specs.declared.fault.Word.the-variants.{Call, Head, Raise, Load, Store}
 use Rattle.reasons.specs.declared.fault.Fault.{Fault}
@@ -34,7 +33,7 @@ shortAll [] = true
 shortAll (m ∷ ms) = leb (length (bytesOf (m .words))) 119 && shortAll ms
 
 meaning-short : (ms : List Meaning) (status : ℕ) → shortAll ms ≡ true → Short (bytesOf (meaningIn ms status))
-unfolding meaningIn bytesOf shortAll
+unfolding meaningIn shortAll
 meaning-short [] status e = omega arith
 meaning-short (m ∷ ms) status e =
     go (eqb status (m .status)) (meaning-short ms status (and-right (leb (length (bytesOf (m .words))) 119) _ e))
@@ -44,7 +43,7 @@ meaning-short (m ∷ ms) status e =
     go false rest = rest
 
 form-short : (word : Word) → length (form word) ≤ 64
-unfolding form bytesOf
+unfolding form
 form-short Call = omega arith
 form-short Head = omega arith
 form-short Raise = omega arith
@@ -52,7 +51,7 @@ form-short Load = omega arith
 form-short Store = omega arith
 
 fault-short : (fault : Fault) → Short (faultText fault)
-unfolding faultText bytesOf
+unfolding faultText
 fault-short TooLong = omega arith
 fault-short CarriageReturn = omega arith
 fault-short OtherWord = omega arith
@@ -64,12 +63,12 @@ fault-short NoDigit = omega arith
 fault-short OddDigits = omega arith
 
 why-short : (why : Why) → Short (whyText why)
-unfolding whyText bytesOf
+unfolding whyText
 why-short Good = omega arith
 why-short (Bad fault) = fault-short fault
 
 status-short : (o : Option ℕ) → Short (statusText o)
-unfolding statusText shortAll meanings bytesOf
+unfolding statusText shortAll meanings
 status-short none = omega arith
 status-short (some status) = meaning-short meanings status refl
 

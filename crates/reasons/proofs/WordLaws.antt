@@ -9,8 +9,7 @@ use native.Mathlib.Omega.{arith}
 use lib.ListN.{length, take, drop}
 use lib.Seq.{take-length}
 use borrow.Author.Tests.{eq-eqb, ne-eqb}
-use Rattle.rules.proofs.WorkedText.{bytesOf}
-use Rattle.rules.specs.Text.{lineFeed, badWord, same, field}
+use Rattle.rules.specs.Text.{bytesOf, lineFeed, badWord, same, field}
 use Rattle.text.specs.declared.number.Number.{Number}
 use Rattle.text.specs.Pieces.{firstLength, numberOr}
 use Rattle.reasons.specs.declared.fault.Why.{Why}

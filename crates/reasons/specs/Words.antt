@@ -5,9 +5,8 @@ use Prim.Native.Nat.{ℕ, zero, suc, _+_, _-_, _/_, _%_}
 use Prim.Native.String.{String}
 use lib.Dec.{ltb, eqb}
 use lib.ListN.{length, take}
-use Rattle.rules.proofs.WorkedText.{bytesOf}
 use Rattle.rules.specs.Rulings.{if_then_else_}
-use Rattle.rules.specs.Text.{lineFeed, badWord, same, field}
+use Rattle.rules.specs.Text.{bytesOf, lineFeed, badWord, same, field}
 use Rattle.text.specs.Pieces.{firstLength}
 use Rattle.reasons.specs.declared.fault.Word.{Word}
 use Rattle.reasons.specs.declared.fault.Word.the-variants.{Call, Head, Raise, Load, Store}

@@ -2,7 +2,7 @@
 ghost use mathlib.Core.List.{_++_};
 ghost use Prim.Native.Nat.{_≤_};
 ghost use lib.ListN.{length, drop};
-ghost use Rattle.rules.proofs.WorkedText.{bytesOf};
+ghost use Rattle.rules.specs.Text.{bytesOf};
 ghost use Rattle.reasons.specs.Words.{meanings, meaningIn, meaning, decimal, form, faultText, whyText, fed};
 ghost use Rattle.reasons.specs.Put.{Put};
 use crate::fault::Fault;

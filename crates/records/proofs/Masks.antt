@@ -5,7 +5,7 @@ use mathlib.Core.List.{[], _∷_}
 use mathlib.Core.Logic.{_⊎_, inl, inr, ⊎-elim}
 use Prim.Native.Nat.{ℕ, zero, suc, _+_, _/_, _%_, _^_, _≤_, _<_}
 use native.Mathlib.Omega.{arith}
-use lib.Dec.{eqb}
+use lib.Dec.{eqb, leb}
 use borrow.Author.Tests.{ne-eqb}
 use types.Run.{OneOf}
 use Rattle.rules.specs.Tsb.{isPageIndex}
@@ -39,12 +39,7 @@ pub lowest-none : (mask k : ℕ) → (k ≡ 0 → ⊥) → (k ≡ 1 → ⊥) →
 unfolding lowestIndex isPageIndex
 lowest-none mask k a b c d = rw (ne-eqb k 0 a, ne-eqb k 1 b, ne-eqb k 3 c, ne-eqb k 5 d)
 
--- bit k of a mask: t is what the test of the index came to, and b the bit
-module _ (mask k : ℕ) (t : Bool) (p : t ≡ isPageIndex k) where
-  pub bit-of-index : t ≡ true → true ≡ maskBitRight mask k
-  unfolding maskBitRight
-  bit-of-index h = rw (← p, h)
-
-  pub bit-by-itself : (b : ℕ) → b ≡ mask / 2 ^ k % 2 → t ≡ false → eqb b 0 ≡ maskBitRight mask k
-  unfolding maskBitRight
-  bit-by-itself b q h = rw (← p, h, q)
+-- bit k of a mask, and of the allowed ones
+pub bits-compared : (mask k b a : ℕ) → b ≡ mask / 2 ^ k % 2 → a ≡ 0x2b / 2 ^ k % 2 → leb b a ≡ maskBitRight mask k
+unfolding maskBitRight
+bits-compared mask k b a p q = rw (p, q)

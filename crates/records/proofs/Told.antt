@@ -6,10 +6,11 @@ use lib.Dec.{eqb}
 use native.Mathlib.Omega.{arith}
 use Rattle.rules.specs.declared.Refusal.{Refusal}
 use Rattle.rules.specs.Rulings.{Ruling, refused, granted, accepts, _or-refuse_then_}
-use Rattle.rules.specs.Queues.{powerFrom, newRing}
+use Rattle.rules.specs.Scan.{power-of-two_from_to_}
+use Rattle.rules.specs.Queues.{newRing}
 use Rattle.records.specs.Verdict.{verdictOf, isRight}
 use Rattle.records.specs.declared.Verdict.the-variants.{Right, Refused}
-use Rattle.records.proofs.Powers.{power-least, power-most}
+use Rattle.records.proofs.Powers.{at-least, at-most}
 
 -- a right record is one that the rule accepts
 pub accepts-is : {A : Type 0} (x : Ruling A) → accepts x ≡ isRight (verdictOf x)
@@ -35,7 +36,7 @@ told-then false r x e = let z : _≡_ {A = ℕ} 0 1 = cc in absurd (omega arith)
 
 -- a ring that is right is granted as it was asked for
 module _ (v : ℕ → ℕ → Bool) (base n : ℕ) (e : verdictOf (newRing v base n) ≡ Right) where
-  size-told : powerFrom 2 8 n ≡ true
+  size-told : (power-of-two n from 2 to 256) ≡ true
   unfolding newRing
   size-told = told-then _ _ _ e
 
@@ -52,7 +53,7 @@ module _ (v : ℕ → ℕ → Bool) (base n : ℕ) (e : verdictOf (newRing v bas
   ring-told = rw (size-told, align-told, range-told)
 
   pub entries-least : 2 ≤ n
-  entries-least = power-least 2 8 n size-told
+  entries-least = at-least n 2 256 size-told
 
   pub entries-most : n ≤ 256
-  entries-most = power-most 2 7 n size-told
+  entries-most = at-most n 2 256 size-told

@@ -6,15 +6,16 @@ use lib.Dec.{eqb}
 use borrow.Author.Tests.{eq-eqb, ne-eqb, not-true, not-false}
 use Rattle.rules.specs.declared.Refusal.the-variants.{EINVAL, EBADALIGN, ENORADDR, EBADPGSZ, EBADTSB}
 use Rattle.rules.specs.declared.Tsb.{Tsb}
-use Rattle.rules.specs.Tsb.{isPageIndex, insideMask, isLowest, judgedTsb}
-use Rattle.rules.specs.Queues.{powerFrom, newRing}
+use Rattle.rules.specs.Tsb.{isPageIndex, _is-inside_, isLowest, judgedTsb}
+use Rattle.rules.specs.Scan.{power-of-two_from_to_}
+use Rattle.rules.specs.Queues.{newRing}
 use Rattle.rules.specs.Memory.{newStatistics}
 use Rattle.records.specs.Verdict.{verdictOf}
 use Rattle.records.specs.Masks.{lowestIndex}
 use Rattle.records.specs.declared.Verdict.the-variants.{Right, Refused}
 
 -- 0x14's record
-module _ (v : ℕ → ℕ → Bool) (base n : ℕ) (t : Bool) (p : t ≡ powerFrom 2 8 n) where
+module _ (v : ℕ → ℕ → Bool) (base n : ℕ) (t : Bool) (p : t ≡ (power-of-two n from 2 to 256)) where
   pub ring-size : not t ≡ true → Refused EINVAL ≡ verdictOf (newRing v base n)
   unfolding newRing verdictOf
   ring-size h = rw (← p, not-true t h)
@@ -62,21 +63,21 @@ module _ (v : ℕ → ℕ → Bool) (d : Tsb) (t : Bool) (p : t ≡ isPageIndex 
     unfolding judgedTsb verdictOf
     tsb-no-mask e = rw (← p, not-false t h, eq-eqb _ _ e)
 
-    module _ (m : d .mask ≡ 0 → ⊥) (s : Bool) (q : s ≡ insideMask (d .mask)) where
+    module _ (m : d .mask ≡ 0 → ⊥) (s : Bool) (q : s ≡ (d .mask is-inside 0x2b)) where
       pub tsb-mask : not s ≡ true → Refused EBADPGSZ ≡ verdictOf (judgedTsb v d)
       unfolding judgedTsb verdictOf
       tsb-mask e = rw (← p, not-false t h, ne-eqb _ _ m, ← q, not-true s e)
 
       module _ (k : not s ≡ false) where
         -- the first line of the rule is passed
-        sizes : (isPageIndex (d .index) && (not (eqb (d .mask) 0) && insideMask (d .mask))) ≡ true
+        sizes : (isPageIndex (d .index) && (not (eqb (d .mask) 0) && (d .mask is-inside 0x2b))) ≡ true
         sizes = rw (← p, not-false t h, ne-eqb _ _ m, ← q, not-false s k)
 
         pub tsb-ways : (d .associativity ≡ 1 → ⊥) → Refused EBADTSB ≡ verdictOf (judgedTsb v d)
         unfolding judgedTsb verdictOf
         tsb-ways e = rw (sizes, ne-eqb _ _ e)
 
-        module _ (w : d .associativity ≡ 1) (u : Bool) (r : u ≡ powerFrom 512 12 (d .entries)) where
+        module _ (w : d .associativity ≡ 1) (u : Bool) (r : u ≡ (power-of-two d .entries from 512 to 1_048_576)) where
           pub tsb-entry : not u ≡ true → Refused EBADTSB ≡ verdictOf (judgedTsb v d)
           unfolding judgedTsb verdictOf
           tsb-entry e = rw (sizes, eq-eqb _ _ w, ← r, not-true u e)

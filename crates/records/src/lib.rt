@@ -4,11 +4,12 @@ pub mod blank;
 
 ghost use mathlib.Core.Path.{_≡_};
 ghost use Prim.Native.Nat.{_/_, _%_, _^_, _≤_, _<_};
-ghost use lib.ListN.{take};
+ghost use Rattle.rules.specs.Kept.{present};
 ghost use Rattle.rules.specs.Real.{valid};
-ghost use Rattle.rules.specs.Queues.{powerFrom, newRing};
+ghost use Rattle.rules.specs.Scan.{power-of-two_from_to_};
+ghost use Rattle.rules.specs.Queues.{newRing};
 ghost use Rattle.rules.specs.Memory.{newStatistics};
-ghost use Rattle.rules.specs.Tsb.{isPageIndex, insideMask, judgedTsb};
+ghost use Rattle.rules.specs.Tsb.{isPageIndex, _is-inside_, judgedTsb};
 ghost use Rattle.records.specs.Verdict.{verdictOf, isRight};
 ghost use Rattle.records.specs.Masks.{maskBitRight, lowestIndex};
 use rules::Extents;
@@ -33,7 +34,7 @@ pub fn is_right(verdict: Verdict) -> bool
 
 // The number of entries of a ring: a power of two from 2 to 256.
 fn ring_entries(n: u64) -> bool
-    ensures { λ r. ⌜ r ≡ powerFrom 2 8 n ⌝ }
+    ensures { λ r. ⌜ r ≡ (power-of-two n from 2 to 256) ⌝ }
 {
     match n {
         2 | 4 | 8 | 16 | 32 | 64 | 128 | 256 => true,
@@ -43,7 +44,7 @@ fn ring_entries(n: u64) -> bool
 
 // The number of entries of a TSB: a power of two from 512 to 1,048,576.
 fn tsb_entries(n: u32) -> bool
-    ensures { λ r. ⌜ r ≡ powerFrom 512 12 n ⌝ }
+    ensures { λ r. ⌜ r ≡ (power-of-two n from 512 to 1_048_576) ⌝ }
 {
     match n {
         512
@@ -65,7 +66,7 @@ fn tsb_entries(n: u32) -> bool
 // A ring of n entries from base on, as 0x14 accepts it.
 pub fn judge_ring(e: Extents, base: u64, n: u64) -> Verdict
     requires { ⌜ e .count ≤ 4 ⌝ }
-    ensures { λ r. ⌜ r ≡ verdictOf (newRing (valid (take (e .count) (e .list))) base n) ⌝ }
+    ensures { λ r. ⌜ r ≡ verdictOf (newRing (valid (present e)) base n) ⌝ }
 {
     if !ring_entries(n) {
         return Verdict::Refused(Refusal::EINVAL);
@@ -83,7 +84,7 @@ pub fn judge_ring(e: Extents, base: u64, n: u64) -> Verdict
 // A statistics address, as 0x102 accepts it.
 pub fn judge_statistics(e: Extents, address: u64) -> Verdict
     requires { ⌜ e .count ≤ 4 ⌝ }
-    ensures { λ r. ⌜ r ≡ verdictOf (newStatistics (valid (take (e .count) (e .list))) address) ⌝ }
+    ensures { λ r. ⌜ r ≡ verdictOf (newStatistics (valid (present e)) address) ⌝ }
 {
     if address == 0 {
         return Verdict::Right;
@@ -115,20 +116,20 @@ fn mask_bit(mask: u32, k: u32) -> u32
     (mask >> k) & 1
 }
 
-// Bit k of a page mask is clear, or is that of a page index.
+// The bits that a page mask may have, which are those of the page indexes.
+const ALLOWED: u32 = 0x2b;
+
+// Bit k of a page mask is clear, or allowed.
 fn mask_bit_right(mask: u32, k: u32) -> bool
     requires { ⌜ k < 32 ⌝ }
     ensures { λ r. ⌜ r ≡ maskBitRight mask k ⌝ }
 {
-    if is_page_index(k) {
-        return true;
-    }
-    mask_bit(mask, k) == 0
+    mask_bit(mask, k) <= mask_bit(ALLOWED, k)
 }
 
 // No bit of a page mask lies outside 0x2b.
 fn inside_mask(mask: u32) -> bool
-    ensures { λ r. ⌜ r ≡ insideMask mask ⌝ }
+    ensures { λ r. ⌜ r ≡ (mask is-inside 0x2b) ⌝ }
 {
     let mut k = 0;
     while k < 32 {
@@ -156,7 +157,7 @@ fn is_lowest_index(mask: u32, index: u16) -> bool
 // A TSB descriptor, as 0x20 and 0x21 accept it.
 pub fn judge_tsb(e: Extents, t: Tsb) -> Verdict
     requires { ⌜ e .count ≤ 4 ⌝ }
-    ensures { λ r. ⌜ r ≡ verdictOf (judgedTsb (valid (take (e .count) (e .list))) t) ⌝ }
+    ensures { λ r. ⌜ r ≡ verdictOf (judgedTsb (valid (present e)) t) ⌝ }
 {
     if !is_page_index(t.index as u32) {
         return Verdict::Refused(Refusal::EBADPGSZ);

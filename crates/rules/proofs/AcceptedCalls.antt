@@ -16,7 +16,8 @@ use Rattle.rules.proofs.Computing.{computing}
 pub use Rattle.rules.proofs.Worked.{callBy, headBy, storing, loading}
 use Rattle.rules.proofs.Worked.{call}
 use Rattle.rules.proofs.Examples.{start, next}
-use Rattle.rules.proofs.WorkedText.{bytesOf, workedInput, workedOutput, worked-session-prints}
+use Rattle.rules.specs.Text.{bytesOf}
+use Rattle.rules.proofs.WorkedText.{workedInput, workedOutput, worked-session-prints}
 
 -- an event and the five numbers that it answers
 pub record Step : Type 0 where

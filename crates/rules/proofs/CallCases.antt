@@ -3,7 +3,7 @@ use mathlib.Core.Path.{_≡_, refl}
 use mathlib.Core.List.{List, [], _∷_}
 use Prim.Native.String.{String}
 use Rattle.rules.proofs.Computing.{computing}
-use Rattle.rules.proofs.WorkedText.{bytesOf}
+use Rattle.rules.specs.Text.{bytesOf}
 use Rattle.rules.specs.Types.{Target}
 use Rattle.rules.proofs.Changes.{comparing, majors, source}
 use Rattle.rules.proofs.Sessions.{Exchange, _prints_, _prints_setting_, after, heard, Cases}
@@ -116,5 +116,5 @@ pub record CallCases : Type 0 where
   pub version-calls : Cases 16384 twoGuests versionCalls
 
 pub call-cases : CallCases
-unfolding computing bytesOf comparing after heard
+unfolding computing comparing after heard
 call-cases = record { not-negotiated = refl; version-calls = refl }

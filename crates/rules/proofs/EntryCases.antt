@@ -11,7 +11,7 @@ use Rattle.rules.specs.Kept.{blankExtent, blankTsb, blankCpu, blankSourc
 use Rattle.rules.specs.Statuses.{numbers}
 use Rattle.rules.specs.Host.{hostEvent}
 use Rattle.rules.proofs.Computing.{computing}
-use Rattle.rules.proofs.WorkedText.{bytesOf}
+use Rattle.rules.specs.Text.{bytesOf}
 use Rattle.rules.proofs.Worked.{workedGuest, loading}
 use Rattle.rules.proofs.Changes.{comparing}
 use Rattle.rules.proofs.Sessions.{Exchange, _prints_, after, heard, Cases}
@@ -308,7 +308,7 @@ pub record EntryCases : Type 0 where
   pub no-caller : Cases 16384 worked noCaller
 
 pub entry-cases : EntryCases
-unfolding computing bytesOf comparing after heard many statuses each-answers
+unfolding computing comparing after heard many statuses each-answers
 entry-cases = record {
   bad-tables = refl;
   right-tables = refl;

@@ -8,7 +8,7 @@ use lib.ListN.{replicate, length}
 use Rattle.rules.specs.Types.{Extent, Cpu, Target, Guest, Tables}
 use Rattle.rules.specs.Kept.{blankExtent, blankCpu, blankSource, blankGuest, noVersions, guestAt, cpuAt}
 use Rattle.rules.proofs.Computing.{computing}
-use Rattle.rules.proofs.WorkedText.{bytesOf}
+use Rattle.rules.specs.Text.{bytesOf}
 use Rattle.rules.proofs.Changes.{comparing, guests, majors, word}
 use Rattle.rules.proofs.Sessions.{Exchange, _prints_, _prints_setting_, empty, given, after, heard, Cases}
 
@@ -164,5 +164,5 @@ pub record ImageCases : Type 0 where
   pub again : Cases 8192 ("image 11 120 0000000 0001 0000" ∷ "call 0 0 ff 0 1 1 0" ∷ []) loadedAgain
 
 pub image-cases : ImageCases
-unfolding computing bytesOf texts each-prints comparing after heard
+unfolding computing texts each-prints comparing after heard
 image-cases = record { short-ones = refl; wrong-ones = refl; right-ones = refl; loaded = refl; places = refl; again = refl }

@@ -4,7 +4,7 @@ use mathlib.Core.List.{List, [], _∷_}
 use Prim.Native.String.{String}
 use Rattle.rules.specs.Types.{Target}
 use Rattle.rules.proofs.Computing.{computing}
-use Rattle.rules.proofs.WorkedText.{bytesOf}
+use Rattle.rules.specs.Text.{bytesOf}
 use Rattle.rules.proofs.Changes.{comparing, majors, unset, ring, tsbs, tsb, statistics, source, word}
 use Rattle.rules.proofs.Sessions.{Exchange, _prints_, _prints_setting_, after, heard, Cases}
 
@@ -66,5 +66,5 @@ pub record KeptCases : Type 0 where
   pub alone : Cases 16384 busy changesAlone
 
 pub kept-cases : KeptCases
-unfolding computing bytesOf comparing after heard
+unfolding computing comparing after heard
 kept-cases = record { alone = refl }

@@ -4,7 +4,7 @@ use mathlib.Core.List.{List, [], _∷_}
 use Prim.Native.String.{String}
 use Rattle.rules.specs.Session.{Session}
 use Rattle.rules.proofs.Computing.{computing}
-use Rattle.rules.proofs.WorkedText.{bytesOf}
+use Rattle.rules.specs.Text.{bytesOf}
 use Rattle.rules.proofs.Changes.{Row, rows, differing, comparing, statistics, word}
 use Rattle.rules.proofs.Sessions.{Exchange, _prints_, _prints_setting_, empty, given, after, heard, Cases}
 
@@ -84,5 +84,5 @@ pub record MemoryCases : Type 0 where
   pub mmustat : Cases 16384 twoExtents statisticsCalls
 
 pub memory-cases : MemoryCases
-unfolding computing bytesOf comparing after heard
+unfolding computing comparing after heard
 memory-cases = record { words-pages = refl; scrub-leaves = refl; mmustat = refl }

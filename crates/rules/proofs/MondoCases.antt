@@ -3,7 +3,7 @@ use mathlib.Core.Path.{_≡_, refl}
 use mathlib.Core.List.{List, [], _∷_}
 use Prim.Native.String.{String}
 use Rattle.rules.proofs.Computing.{computing}
-use Rattle.rules.proofs.WorkedText.{bytesOf}
+use Rattle.rules.specs.Text.{bytesOf}
 use Rattle.rules.proofs.Changes.{comparing, ring, word}
 use Rattle.rules.proofs.Sessions.{Exchange, _prints_, _prints_setting_, after, heard, Cases}
 
@@ -134,5 +134,5 @@ pub record MondoCases : Type 0 where
   pub overlap : Cases 8192 overlapReady mondosOverlap
 
 pub mondo-cases : MondoCases
-unfolding computing bytesOf comparing after heard
+unfolding computing comparing after heard
 mondo-cases = record { refusals = refl; sent = refl; overlap = refl }

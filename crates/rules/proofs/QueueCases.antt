@@ -3,7 +3,7 @@ use mathlib.Core.Path.{_≡_, refl}
 use mathlib.Core.List.{List, [], _∷_}
 use Prim.Native.String.{String}
 use Rattle.rules.proofs.Computing.{computing}
-use Rattle.rules.proofs.WorkedText.{bytesOf}
+use Rattle.rules.specs.Text.{bytesOf}
 use Rattle.rules.proofs.Changes.{comparing, unset, ring, word}
 use Rattle.rules.proofs.Sessions.{Exchange, _prints_, _prints_setting_, after, heard, Cases}
 
@@ -111,5 +111,5 @@ pub record QueueCases : Type 0 where
   pub head-writes : Cases 8192 ringOfFour headWrites
 
 pub queue-cases : QueueCases
-unfolding computing bytesOf comparing after heard
+unfolding computing comparing after heard
 queue-cases = record { ring-calls = refl; head-writes = refl }

@@ -43,6 +43,11 @@ none-at p n i a h = go (p i) refl
     go true e = absurd (false≢true (sym a ∙ sym (some-at p i n h e)))
     go false e = e
 
+pub none-of : (p : ℕ → Bool) (n : ℕ) → ((i : ℕ) → i < n → p i ≡ false) → someBelow n p ≡ false
+unfolding someBelow
+none-of p zero f = refl
+none-of p (suc n) f = rw (none-of p n (λ i h. f i (omega arith)), f n (omega arith))
+
 -- a search in a search: of the pairs (i, j) with i below j
 module _ (p : ℕ → ℕ → Bool) where
   pub pairs-next : (j i : ℕ) → someBelow j (λ k. someBelow k (λ m. p k m)) ≡ false → someBelow i (λ m. p j m) ≡ false → i ≤ j → j ≤ i → someBelow (j + 1) (λ k. someBelow k (λ m. p k m)) ≡ false

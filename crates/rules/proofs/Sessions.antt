@@ -8,7 +8,7 @@ use lib.ListN.{replicate}
 use Rattle.rules.specs.Kept.{noGuests}
 use Rattle.rules.specs.Text.{parse}
 use Rattle.rules.specs.Session.{Session, Printed, answered}
-use Rattle.rules.proofs.WorkedText.{bytesOf}
+use Rattle.rules.specs.Text.{bytesOf}
 use Rattle.rules.proofs.Changes.{Row, changed}
 
 -- a line, what the program prints for it, and the rows of the tables and words of memory that it changes, as they are after it

@@ -4,7 +4,7 @@ use mathlib.Core.List.{List, [], _∷_}
 use Prim.Native.String.{String}
 use Rattle.rules.specs.Types.{Target}
 use Rattle.rules.proofs.Computing.{computing}
-use Rattle.rules.proofs.WorkedText.{bytesOf}
+use Rattle.rules.specs.Text.{bytesOf}
 use Rattle.rules.proofs.Changes.{comparing, ring, source, word}
 use Rattle.rules.proofs.Sessions.{Exchange, _prints_, _prints_setting_, after, heard, Cases}
 
@@ -150,5 +150,5 @@ pub record SourceCases : Type 0 where
   pub raises-at-two : Cases 16384 atTwo raisesAtTwo
 
 pub source-cases : SourceCases
-unfolding computing bytesOf comparing after heard
+unfolding computing comparing after heard
 source-cases = record { by-sysino = refl; by-name = refl; raises-at-one = refl; raises-at-two = refl }

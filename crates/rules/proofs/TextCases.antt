@@ -8,7 +8,7 @@ use Rattle.rules.specs.Types.{Call, Event}
 use Rattle.rules.specs.Text.{bad, event, pieces, lineOf, parse}
 use Rattle.rules.specs.Session.{begin, output}
 use Rattle.rules.proofs.Computing.{computing}
-use Rattle.rules.proofs.WorkedText.{bytesOf}
+use Rattle.rules.specs.Text.{bytesOf}
 use Rattle.rules.proofs.Changes.{comparing, majors, word}
 use Rattle.rules.proofs.Sessions.{Exchange, _prints_, _prints_setting_, after, heard, Cases}
 
@@ -118,7 +118,7 @@ pub record TextCases : Type 0 where
   pub call-fields : parse (bytesOf "call 1 2 3 4 5 6 7 8 9") ≡ event (Event.Call callOneToNine)
 
 pub text-cases : TextCases
-unfolding computing bytesOf comparing after heard outputs
+unfolding computing comparing after heard outputs
 text-cases = record { bad-lines = refl; good-lines = refl; whole-inputs = refl; memory-size = refl; call-fields = refl }
 
 -- "lines of at most 2,048 bytes": a line of 2,048 is read by its pieces, whatever they are, and one of 2,049 is bad

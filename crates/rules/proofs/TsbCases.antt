@@ -9,7 +9,7 @@ use Rattle.rules.specs.Real.{wordBytes}
 use Rattle.rules.specs.Statuses.{numbers}
 use Rattle.rules.specs.Host.{hostEvent}
 use Rattle.rules.proofs.Computing.{computing}
-use Rattle.rules.proofs.WorkedText.{bytesOf}
+use Rattle.rules.specs.Text.{bytesOf}
 use Rattle.rules.proofs.Worked.{call}
 use Rattle.rules.proofs.Changes.{comparing, tsbs, tsb, word}
 use Rattle.rules.proofs.Sessions.{Exchange, _prints_, _prints_setting_, empty, after, heard, Cases}
@@ -154,5 +154,5 @@ pub record TsbCases : Type 0 where
   pub judged : judgements (after (empty 16384) ready .tables) descriptors ≡ statuses descriptors
 
 pub tsb-cases : TsbCases
-unfolding computing bytesOf comparing after heard judgements statuses
+unfolding computing comparing after heard judgements statuses
 tsb-cases = record { lists = refl; judged = refl }

@@ -1,17 +1,9 @@
 -- The paper's session as text: what the program prints for it.
 use mathlib.Core.Path.{_≡_, refl}
-use mathlib.Core.List.{List}
-use mathlib.Core.List as list
-use Prim.Native.Nat.{ℕ}
-use Prim.Native.Char.{code}
-use Prim.Native.String.{String, [], _∷_, _++_}
+use Prim.Native.String.{String, _++_}
+use Rattle.rules.specs.Text.{bytesOf}
 use Rattle.rules.specs.Session.{output}
 use Rattle.rules.proofs.Computing.{computing}
-
--- the bytes of a text, which has no character past 127
-unfoldable pub bytesOf : String → List ℕ
-bytesOf [] = list.[]
-bytesOf (c ∷ cs) = list._∷_ (code c) (bytesOf cs)
 
 abbrev pub workedInput : String
 workedInput =
@@ -42,5 +34,5 @@ workedOutput =
     ++ "0 80 2 0 0\n"
 
 pub worked-session-prints : output (bytesOf workedInput) ≡ bytesOf workedOutput
-unfolding computing bytesOf
+unfolding computing
 worked-session-prints = refl

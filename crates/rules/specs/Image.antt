@@ -6,34 +6,36 @@ use lib.ListN.{length, set, replicate}
 use lib.Dec.{leb, ltb, eqb}
 use Rattle.rules.specs.Types.{Extent, Extents, Target, Source, Guest, Tables, ImageShort, ImageBad, Done, Refused, Loaded}
 use Rattle.rules.specs.Limits.{guestLimit, cpuLimit, extentLimit, sourceLimit, realPages, hostPages}
-use Rattle.rules.specs.Scan.{someBelow, allBelow}
+use Rattle.rules.specs.Scan.{someBelow, allBelow, _is-from_to_}
 use Rattle.rules.specs.Kept.{blankExtent, blankCpu, blankSource, blankGuest, noVersions, noGuests, guestAt, plantAt, extentAt, sourceAt}
 use Rattle.rules.specs.Bits.{fieldAt, reaches}
+use Rattle.rules.specs.Widths.{editionWidth, guestsWidth, headerBits, cpusWidth, extentsWidth, sourcesWidth, countsBits}
+use Rattle.rules.specs.Widths.{realPageWidth, pageCountWidth, hostPageWidth, extentBits, devhandleWidth, devinoWidth, cookieSupportWidth, sourceBits}
 use Rattle.rules.specs.Rulings.{Ruling, refused, granted, _or-refuse_then_, _grants_}
 
--- "missing bits 110 at once", and "a header or count outside its limits answers 111 at once": n bits, from lo to hi
-unfoldable pub countAt : List ℕ → ℕ → ℕ → ℕ → ℕ → Ruling ℕ
-countAt bytes at n lo hi =
-    reaches bytes (at + n) or-refuse ImageShort then
-    (leb lo (fieldAt bytes at n) && leb (fieldAt bytes at n) hi) or-refuse ImageBad then
-    granted (fieldAt bytes at n)
+-- "a header or count outside its limits answers 111 at once, missing bits 110 at once":
+-- WIDTH bits-at BIT of BYTES from LEAST to MOST
+infix 40 _bits-at_of_from_to_
+unfoldable pub _bits-at_of_from_to_ : ℕ → ℕ → List ℕ → ℕ → ℕ → Ruling ℕ
+_bits-at_of_from_to_ width at bytes least most =
+    reaches bytes (at + width) or-refuse ImageShort then
+    (fieldAt bytes at width is-from least to most) or-refuse ImageBad then
+    granted (fieldAt bytes at width)
 
--- "its extents, each real page 28 bits, page count 16, host page 16"
-abbrev pub extentBits : ℕ
-extentBits = 60
-
+-- an extent: "real page 28 bits, page count 16, host page 16"
 abbrev pub readExtent : List ℕ → ℕ → Extent
-readExtent bytes at = record { real = fieldAt bytes at 28; count = fieldAt bytes (at + 28) 16; host = fieldAt bytes (at + 44) 16 }
+readExtent bytes at = record {
+  real = fieldAt bytes at realPageWidth;
+  count = fieldAt bytes (at + realPageWidth) pageCountWidth;
+  host = fieldAt bytes (at + (realPageWidth + pageCountWidth)) hostPageWidth;
+}
 
--- "then its sources, each devhandle 28 bits, devino 7, cookie support 1"; a source is unset, disabled, idle and 0
-abbrev pub sourceBits : ℕ
-sourceBits = 36
-
+-- a source: "devhandle 28 bits, devino 7, cookie support 1"; it is unset, disabled, idle and 0
 abbrev pub readSource : List ℕ → ℕ → Source
 readSource bytes at = record {
-  devhandle = fieldAt bytes at 28;
-  devino = fieldAt bytes (at + 28) 7;
-  cookies = eqb (fieldAt bytes (at + 35) 1) 1;
+  devhandle = fieldAt bytes at devhandleWidth;
+  devino = fieldAt bytes (at + devhandleWidth) devinoWidth;
+  cookies = eqb (fieldAt bytes (at + (devhandleWidth + devinoWidth)) cookieSupportWidth) 1;
   enabled = 0;
   state = 0;
   target = Target.Unset;
@@ -63,15 +65,15 @@ readLists bytes at cpus extents sources =
 
 -- "For each guest: cpus 4 bits, extents 3 bits, sources 5 bits"; then its lists
 unfoldable pub readGuest : List ℕ → ℕ → Ruling Guest
-readGuest bytes at =
-    countAt bytes at 4 1 cpuLimit grants λ cpus.
-    countAt bytes (at + 4) 3 1 extentLimit grants λ extents.
-    countAt bytes (at + 7) 5 0 sourceLimit grants λ sources.
-    readLists bytes (at + 12) cpus extents sources
+readGuest bytes start =
+    cpusWidth bits-at start of bytes from 1 to cpuLimit grants λ cpus.
+    extentsWidth bits-at (start + cpusWidth) of bytes from 1 to extentLimit grants λ extents.
+    sourcesWidth bits-at (start + (cpusWidth + extentsWidth)) of bytes from 0 to sourceLimit grants λ sources.
+    readLists bytes (start + countsBits) cpus extents sources
 
 -- the bit behind a guest that starts at `at`
 abbrev pub behind : ℕ → Guest → ℕ
-behind at guest = at + 12 + extentBits * guest .extents .count + sourceBits * guest .plant .sources
+behind at guest = at + countsBits + extentBits * guest .extents .count + sourceBits * guest .plant .sources
 
 -- what has been read: the guests, and the bit behind the last of them
 pub record Partition : Type 0 where
@@ -145,9 +147,9 @@ judged bytes end tables =
 -- "Header: edition 4 bits (1), guests 4 bits (1 to 4)", and the guests; "Fields are read in order"
 unfoldable pub readImage : List ℕ → Ruling Tables
 readImage bytes =
-    countAt bytes 0 4 1 1 grants λ edition.
-    countAt bytes 4 4 1 guestLimit grants λ guests.
-    readGuests bytes guests 8 0 (replicate guestLimit blankGuest) grants λ partition.
+    editionWidth bits-at 0 of bytes from 1 to 1 grants λ edition.
+    guestsWidth bits-at editionWidth of bytes from 1 to guestLimit grants λ guests.
+    readGuests bytes guests headerBits 0 (replicate guestLimit blankGuest) grants λ partition.
     judged bytes (partition .end) (record { guests = guests; guest = partition .guest })
 
 -- an accepted image answers 0; 110 and 111 leave "tables with no guest"

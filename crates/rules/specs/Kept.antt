@@ -59,9 +59,12 @@ plantAt tables g = guestAt tables g .plant
 abbrev pub extentAt : Extents → ℕ → Extent
 extentAt extents i = getD (extents .list) i blankExtent
 
--- the extents that are there
+-- the extents that are there, and those of a guest
+abbrev pub present : Extents → List Extent
+present extents = take (extents .count) (extents .list)
+
 abbrev pub extentsOf : Tables → ℕ → List Extent
-extentsOf tables g = take (guestAt tables g .extents .count) (guestAt tables g .extents .list)
+extentsOf tables g = present (guestAt tables g .extents)
 
 abbrev pub cpuAt : Plant → ℕ → Cpu
 cpuAt plant c = getD (plant .cpu) c hollowCpu

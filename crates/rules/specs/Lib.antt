@@ -8,6 +8,7 @@ pub mod Kept
 pub mod Real
 -- The partition image
 pub mod Bits
+pub mod Widths
 pub mod Image
 -- Entry to every event
 pub mod Host

@@ -1,5 +1,6 @@
 -- The limits that the paper sets on the tables; src/lib.rt names the same ones for the arrays.
-use Prim.Native.Nat.{ℕ}
+use Prim.Native.Nat.{ℕ, _^_}
+use Rattle.rules.specs.Widths.{devhandleWidth, devinoWidth}
 
 -- "Guests 0 to 3. Each has 1 to 8 cpus, 1 to 4 extents of memory, 0 to 16 interrupt sources."
 abbrev pub guestLimit : ℕ
@@ -21,19 +22,20 @@ queueLimit = 4
 abbrev pub tsbLimit : ℕ
 tsbLimit = 4
 
--- "pages of 8,192 bytes", of which a real address has 28 bits' worth and the host 65,536
+-- "pages of 8,192 bytes"
 abbrev pub pageSize : ℕ
 pageSize = 8192
 
+-- "real page plus count at most 2^28; host page plus count at most 65,536"
 abbrev pub realPages : ℕ
-realPages = 0x1000_0000
+realPages = 2 ^ 28
 
 abbrev pub hostPages : ℕ
 hostPages = 65536
 
--- devhandle has 28 bits and devino 7
+-- "devhandle 28 bits, devino 7"
 abbrev pub devhandles : ℕ
-devhandles = 0x1000_0000
+devhandles = 2 ^ devhandleWidth
 
 abbrev pub devinos : ℕ
-devinos = 128
+devinos = 2 ^ devinoWidth

@@ -5,6 +5,7 @@ use Prim.Native.Nat.{ℕ, _%_, min}
 use lib.Dec.{eqb}
 use lib.ListN.{replicate}
 use Rattle.rules.specs.Types.{Plant, Done, One, Refused, EINVAL, EBADALIGN, ENORADDR}
+use Rattle.rules.specs.Limits.{pageSize}
 use Rattle.rules.specs.Kept.{cpuAt, withStatistics}
 use Rattle.rules.specs.Real.{Sight, numberOf, wordBytes}
 use Rattle.rules.specs.Rulings.{Ruling, refused, granted, Outcome, _or-refuse_then_, if_then_else_, says}
@@ -14,7 +15,7 @@ use Rattle.rules.specs.Rulings.{Ruling, refused, granted, Outcome, _or-r
 unfoldable pub wholePages : (ℕ → ℕ → Bool) → ℕ → ℕ → Ruling Outcome → Ruling Outcome
 wholePages valid address length rest =
     not (eqb length 0) or-refuse EINVAL then
-    (eqb (address % 8192) 0 && eqb (length % 8192) 0) or-refuse EBADALIGN then
+    (eqb (address % pageSize) 0 && eqb (length % pageSize) 0) or-refuse EBADALIGN then
     valid address length or-refuse ENORADDR then
     rest
 

@@ -1,10 +1,11 @@
 -- "Queues and mondos": 0x14, 0x15, 0x16, an entry put into a ring, and the head write (000, sections 7.2.6, 7.2.7 and 7.2.9).
-use mathlib.Core.Bool.{Bool, true, false, _&&_, _||_, not}
+use mathlib.Core.Bool.{Bool, true, false, _&&_, not}
 use mathlib.Core.List.{List, [], _∷_}
-use Prim.Native.Nat.{ℕ, zero, suc, _+_, _-_, _*_, _/_, _%_}
+use Prim.Native.Nat.{ℕ, _+_, _-_, _*_, _/_, _%_}
 use lib.Dec.{leb, ltb, eqb}
 use Rattle.rules.specs.Types.{Ring, QueueRecord, Plant, Answer, One, Two, EINVAL, EBADALIGN, ENORADDR}
 use Rattle.rules.specs.Kept.{cpuAt, queueAt, withQueue, withHead, withTail}
+use Rattle.rules.specs.Scan.{power-of-two_from_to_}
 use Rattle.rules.specs.Real.{Write}
 use Rattle.rules.specs.Rulings.{Ruling, refused, granted, Outcome, _or-refuse_then_, _grants_, if_then_else_, says, done}
 
@@ -15,16 +16,11 @@ isQueue queue = leb 0x3c queue && leb queue 0x3f
 abbrev pub indexOf : ℕ → ℕ
 indexOf queue = queue - 0x3c
 
--- one of the k numbers p, 2p, 4p .., which are powers of two if p is one
-unfoldable pub powerFrom : ℕ → ℕ → ℕ → Bool
-powerFrom p zero n = false
-powerFrom p (suc k) n = eqb n p || powerFrom (2 * p) k n
-
 -- "n not a power of two, below 2 or above 256 EINVAL; base not a multiple of 64n EBADALIGN; range not valid ENORADDR.
 -- Then head = tail = 0."
 unfoldable pub newRing : (ℕ → ℕ → Bool) → ℕ → ℕ → Ruling Ring
 newRing valid base n =
-    powerFrom 2 8 n or-refuse EINVAL then
+    (power-of-two n from 2 to 256) or-refuse EINVAL then
     eqb (base % (64 * n)) 0 or-refuse EBADALIGN then
     valid base (64 * n) or-refuse ENORADDR then
     granted (record { base = base; size = 64 * n; head = 0; tail = 0 })
@@ -67,7 +63,7 @@ put plant cpu queue entry =
 
 -- how far a place of the ring lies forward from its head
 abbrev pub forward : Ring → ℕ → ℕ
-forward ring to = (to + ring .size - ring .head) % ring .size
+forward ring place = (place + ring .size - ring .head) % ring .size
 
 -- the ring of a record, "or unset EINVAL"
 abbrev pub ringOf : QueueRecord → Ruling Ring

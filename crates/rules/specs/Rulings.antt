@@ -1,4 +1,13 @@
 -- How a rule reads. Refusals stand one under another in the paper's order; what stands last happens if none of them does.
+--
+-- The words of the language, for a reader who meets it here. `f : A → B → C` says that f takes an A and a B and gives a C, and the
+-- lines below it say what, case by case; `f a b` is its value at a and b, and `λ x. e` the function that gives e for x.
+-- Numbers (ℕ) are whole, from 0 on, and never wrap; `a - b` is 0 where b is larger, `/` and `%` are quotient and remainder.
+-- `leb a b`, `ltb a b` and `eqb a b` are the tests a ≤ b, a < b and a = b, each true or false; `&&`, `||` and `not` join them.
+-- `[]` is the empty list, and `x ∷ xs` the list xs with x in front. `record { f = a; .. }` is a record, and `r .f` its field f.
+-- `_` in a name is the place of an argument: `_or-refuse_then_` is written `TEST or-refuse STATUS then REST`.
+-- `pub`, `abbrev` and `unfoldable` say who may name a definition and how a proof looks into it; they do not change what it says.
+-- In a proof `a ≡ b` is the statement that a and b are the same.
 use mathlib.Core.Bool.{Bool, true, false}
 use mathlib.Core.List.{List, []}
 use Rattle.rules.specs.Types.{Plant, Answer, Done, Refused, Refusal}

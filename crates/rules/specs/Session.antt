@@ -3,7 +3,7 @@ use mathlib.Core.List.{List, [], _∷_, _++_}
 use Prim.Native.Nat.{ℕ}
 use lib.Dec.{eqb}
 use lib.ListN.{replicate, take}
-use Rattle.rules.specs.Types.{Tables, Loaded}
+use Rattle.rules.specs.Types.{Tables, Loaded, Reply}
 use Rattle.rules.specs.Kept.{noGuests}
 use Rattle.rules.specs.Statuses.{numbers}
 use Rattle.rules.specs.Image.{load}
@@ -19,22 +19,39 @@ pub record Session : Type 0 where
 unfoldable pub begin : Session
 begin = record { tables = noGuests; memory = replicate 32768 0 }
 
+-- what a line leaves, and what is told of it
+pub record Replied : Type 0 where
+  pub session : Session
+  pub reply : Reply
+
+abbrev pub afterImage : Session → Loaded → Replied
+afterImage s l = record { session = record { tables = l .tables; memory = s .memory }; reply = Reply.Image (l .answer) }
+
+abbrev pub afterEvent : HostOutcome → Replied
+afterEvent o = record { session = record { tables = o .tables; memory = o .memory }; reply = Reply.Event (o .answer) }
+
+-- a bad line "does nothing"
+unfoldable pub replied : Session → Line → Replied
+replied s bad = record { session = s; reply = Reply.Bad }
+replied s (image bytes) = afterImage s (load bytes)
+replied s (event e) = afterEvent (hostEvent (s .tables) (s .memory) e)
+
+-- the text of a reply: "for image the status, else the status and four values"; "A line prints bad"
+unfoldable pub textOf : Reply → List ℕ
+textOf Reply.Bad = badWord
+textOf (Reply.Image answer) = spaced (take 1 (numbers answer))
+textOf (Reply.Event answer) = spaced (numbers answer)
+
 -- what a line leaves and prints
 pub record Printed : Type 0 where
   pub session : Session
   pub text : List ℕ
 
--- "for image the status, else the status and four values"
-abbrev pub afterImage : Session → Loaded → Printed
-afterImage s l = record { session = record { tables = l .tables; memory = s .memory }; text = spaced (take 1 (numbers (l .answer))) }
-
-abbrev pub afterEvent : HostOutcome → Printed
-afterEvent o = record { session = record { tables = o .tables; memory = o .memory }; text = spaced (numbers (o .answer)) }
+abbrev pub printedAs : Replied → Printed
+printedAs r = record { session = r .session; text = textOf (r .reply) }
 
 unfoldable pub answered : Session → Line → Printed
-answered s bad = record { session = s; text = badWord }
-answered s (image bytes) = afterImage s (load bytes)
-answered s (event e) = afterEvent (hostEvent (s .tables) (s .memory) e)
+answered s line = printedAs (replied s line)
 
 -- "lines .. each ended by a line feed or, unless empty, by the end": the line so far stands in `line`
 unfoldable pub linesFrom : List ℕ → List ℕ → List (List ℕ)

@@ -2,11 +2,10 @@
 use mathlib.Core.Bool.{Bool, true, false, _&&_, _||_, not}
 use Prim.Native.Nat.{ℕ, _/_, _%_}
 use lib.Dec.{leb, ltb, eqb}
-use lib.ListN.{take}
 use Rattle.rules.specs.Types.{Group, Extent, Extents, Ring, QueueRecord, Tsb, TsbList, Cpu, Target, Source, Versions, Plant, Guest, Tables}
 use Rattle.rules.specs.Limits.{guestLimit, cpuLimit, extentLimit, sourceLimit, queueLimit, tsbLimit, devhandles, devinos}
 use Rattle.rules.specs.Scan.{allBelow}
-use Rattle.rules.specs.Kept.{guestAt, extentAt, cpuAt, queueAt, tsbAt, sourceAt}
+use Rattle.rules.specs.Kept.{guestAt, extentAt, present, cpuAt, queueAt, tsbAt, sourceAt}
 use Rattle.rules.specs.Real.{valid}
 use Rattle.rules.specs.Image.{extentRight, ascend, pagesShared, sourceTwice}
 use Rattle.rules.specs.Versions.{majorOf, newest}
@@ -129,8 +128,7 @@ plantKeeps valid plant =
     && listRight sourceLimit (plant .sources) (λ i. sourceRight plant (sourceAt plant i)) (λ i. sourceBlank (sourceAt plant i)))
 
 unfoldable pub guestKeeps : Guest → Bool
-guestKeeps guest =
-    extentsKeep (guest .extents) && plantKeeps (valid (take (guest .extents .count) (guest .extents .list))) (guest .plant)
+guestKeeps guest = extentsKeep (guest .extents) && plantKeeps (valid (present (guest .extents))) (guest .plant)
 
 -- the tables hold. "Tables with no guest keep these rules."
 unfoldable pub keepRules : Tables → Bool

@@ -3,10 +3,19 @@ use mathlib.Core.Bool.{Bool, true, false, _&&_}
 use mathlib.Core.List.{List, [], _∷_, _++_}
 use mathlib.Core.Option.{Option, none, some}
 use Prim.Native.Nat.{ℕ, zero, suc, _+_, _-_, _*_, _/_, _%_}
+use Prim.Native.Char.{code}
+use Prim.Native.String.{String}
+use Prim.Native.String as string
 use lib.Dec.{leb, ltb, eqb}
 use lib.ListN.{length, getD}
 use Rattle.rules.specs.Types.{Call, HeadWrite, Device, LoadAt, StoreAt, Event}
+use Rattle.rules.specs.Scan.{_is-from_to_}
 use Rattle.rules.specs.Rulings.{if_then_else_}
+
+-- the bytes of a text, which has no character past 127
+abbrev pub bytesOf : String → List ℕ
+bytesOf string.[] = []
+bytesOf (string._∷_ c cs) = code c ∷ bytesOf cs
 
 abbrev pub space : ℕ
 space = 0x20
@@ -16,25 +25,25 @@ lineFeed = 0x0a
 
 -- the first words, and the answer to a line that is none
 abbrev pub imageWord : List ℕ
-imageWord = 0x69 ∷ 0x6d ∷ 0x61 ∷ 0x67 ∷ 0x65 ∷ []
+imageWord = bytesOf "image"
 
 abbrev pub callWord : List ℕ
-callWord = 0x63 ∷ 0x61 ∷ 0x6c ∷ 0x6c ∷ []
+callWord = bytesOf "call"
 
 abbrev pub headWord : List ℕ
-headWord = 0x68 ∷ 0x65 ∷ 0x61 ∷ 0x64 ∷ []
+headWord = bytesOf "head"
 
 abbrev pub raiseWord : List ℕ
-raiseWord = 0x72 ∷ 0x61 ∷ 0x69 ∷ 0x73 ∷ 0x65 ∷ []
+raiseWord = bytesOf "raise"
 
 abbrev pub loadWord : List ℕ
-loadWord = 0x6c ∷ 0x6f ∷ 0x61 ∷ 0x64 ∷ []
+loadWord = bytesOf "load"
 
 abbrev pub storeWord : List ℕ
-storeWord = 0x73 ∷ 0x74 ∷ 0x6f ∷ 0x72 ∷ 0x65 ∷ []
+storeWord = bytesOf "store"
 
 abbrev pub badWord : List ℕ
-badWord = 0x62 ∷ 0x61 ∷ 0x64 ∷ []
+badWord = bytesOf "bad"
 
 -- two texts are the same
 unfoldable pub same : List ℕ → List ℕ → Bool
@@ -49,12 +58,12 @@ unfoldable pub pieces : List ℕ → List ℕ → List (List ℕ)
 pieces piece [] = piece ∷ []
 pieces piece (b ∷ bs) = if eqb b space then piece ∷ pieces [] bs else pieces (piece ++ (b ∷ [])) bs
 
--- "hex of either case": the value of a digit
+-- "hex of either case": the value of a digit, by its code (0 to 9, a to f, A to F)
 unfoldable pub digitOf : ℕ → Option ℕ
 digitOf b =
-    if leb 0x30 b && leb b 0x39 then some (b - 0x30) else
-    if leb 0x61 b && leb b 0x66 then some (b - 0x57) else
-    if leb 0x41 b && leb b 0x46 then some (b - 0x37) else
+    if b is-from 0x30 to 0x39 then some (b - 0x30) else
+    if b is-from 0x61 to 0x66 then some (b - 0x57) else
+    if b is-from 0x41 to 0x46 then some (b - 0x37) else
     none
 
 -- the digits of a text, if all are digits
@@ -78,7 +87,7 @@ numbered none = none
 numbered (some ds) = some (valueOf 0 ds)
 
 unfoldable pub field : List ℕ → Option ℕ
-field text = if leb 1 (length text) && leb (length text) 16 then numbered (digits text) else none
+field text = if length text is-from 1 to 16 then numbered (digits text) else none
 
 -- all fields, if each is a number
 unfoldable pub fields : List (List ℕ) → Option (List ℕ)
@@ -138,7 +147,7 @@ storeOf ns = record { guest = getD ns 0 0; address = getD ns 1 0; value = getD n
 -- "in the order given under the events". "Only the five arguments of a call may be missing, and are then 0."
 unfoldable pub eventLine : List ℕ → List ℕ → Line
 eventLine word ns =
-    if same word callWord && (leb 4 (length ns) && leb (length ns) 9) then event (Event.Call (callOf ns)) else
+    if same word callWord && (length ns is-from 4 to 9) then event (Event.Call (callOf ns)) else
     if same word headWord && eqb (length ns) 4 then event (Event.Head (headOf ns)) else
     if same word raiseWord && eqb (length ns) 2 then event (Event.Raise (deviceOf ns)) else
     if same word loadWord && eqb (length ns) 2 then event (Event.Load (loadOf ns)) else

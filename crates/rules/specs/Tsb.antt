@@ -6,11 +6,10 @@ use lib.Dec.{leb, eqb}
 use lib.ListN.{set, replicate}
 use Rattle.rules.specs.Types.{Tsb, TsbList, Plant, EINVAL, EBADALIGN, ENORADDR, EBADPGSZ, EBADTSB}
 use Rattle.rules.specs.Limits.{tsbLimit}
-use Rattle.rules.specs.Scan.{allBelow}
+use Rattle.rules.specs.Scan.{allBelow, power-of-two_from_to_}
 use Rattle.rules.specs.Kept.{blankTsb, blankTsbs, withCtx0, withCtxnon0}
 use Rattle.rules.specs.Real.{Sight, numberOf}
 use Rattle.rules.specs.Rulings.{Ruling, granted, Outcome, _or-refuse_then_, _grants_, if_then_else_, done}
-use Rattle.rules.specs.Queues.{powerFrom}
 
 -- "Descriptor, at byte 0 page index (16 bits), 2 associativity (16), 4 entries (32), 8 context index (32), 12 page mask (32),
 -- 16 base (64), 24 reserved, not kept."
@@ -24,13 +23,14 @@ descriptorAt byte a = record {
   base = numberOf byte (a + 16) 8;
 }
 
--- page indexes 0, 1, 3 and 5, which are the bits of 0x2b
+-- "index not 0, 1, 3 or 5"
 unfoldable pub isPageIndex : ℕ → Bool
 isPageIndex k = (eqb k 0 || eqb k 1) || (eqb k 3 || eqb k 5)
 
--- no bit of the mask's 32 lies outside 0x2b
-unfoldable pub insideMask : ℕ → Bool
-insideMask mask = allBelow 32 (λ k. isPageIndex k || eqb (mask / 2 ^ k % 2) 0)
+-- MASK is-inside ALLOWED: each of the mask's 32 bits is clear, or set in the allowed ones too
+infix 40 _is-inside_
+unfoldable pub _is-inside_ : ℕ → ℕ → Bool
+_is-inside_ mask allowed = allBelow 32 (λ k. leb (mask / 2 ^ k % 2) (allowed / 2 ^ k % 2))
 
 -- of the mask's bits up to k, that one alone is set
 abbrev pub isLowest : ℕ → ℕ → Bool
@@ -41,8 +41,8 @@ isLowest mask k = eqb (mask % 2 ^ (k + 1)) (2 ^ k)
 -- 16·entries EBADALIGN; 16·entries bytes not valid ENORADDR"
 unfoldable pub judgedTsb : (ℕ → ℕ → Bool) → Tsb → Ruling Tsb
 judgedTsb valid t =
-    (isPageIndex (t .index) && (not (eqb (t .mask) 0) && insideMask (t .mask))) or-refuse EBADPGSZ then
-    (eqb (t .associativity) 1 && powerFrom 512 12 (t .entries)) or-refuse EBADTSB then
+    (isPageIndex (t .index) && (not (eqb (t .mask) 0) && (t .mask is-inside 0x2b))) or-refuse EBADPGSZ then
+    (eqb (t .associativity) 1 && (power-of-two t .entries from 512 to 1_048_576)) or-refuse EBADTSB then
     (eqb (t .context) 0 && isLowest (t .mask) (t .index)) or-refuse EINVAL then
     eqb (t .base % (16 * t .entries)) 0 or-refuse EBADALIGN then
     valid (t .base) (16 * t .entries) or-refuse ENORADDR then

@@ -33,3 +33,4 @@ pub use Rattle.rules.specs.declared.Refusal.the-variants.{ENOCPU, ENORAD
 pub use Rattle.rules.specs.declared.Answer.{Answer}
 pub use Rattle.rules.specs.declared.Answer.the-variants.{Done, One, Two, Refused}
 pub use Rattle.rules.specs.declared.Loaded.{Loaded}
+pub use Rattle.rules.specs.declared.Reply.{Reply}

@@ -1,6 +1,8 @@
 // Every type of the host's tables, events and answers: plain data, by value. What the numbers mean, and every rule about
 // them, stands in specs/, in the order of the paper.
 
+pub mod widths;
+
 // The limits of the tables; specs/Limits.antt names the same ones for the rules.
 pub const GUESTS: usize = 4;
 
@@ -13,6 +15,9 @@ pub const SOURCES: usize = 16;
 pub const QUEUES: usize = 4;
 
 pub const TSBS: usize = 4;
+
+// The bytes of a page.
+pub const PAGE_SIZE: usize = 8192;
 
 // A real address, which a guest names, and an offset into the host's memory. Only an extent turns one into the other.
 pub struct Real(pub u64);
@@ -256,4 +261,11 @@ pub enum Answer {
 pub struct Loaded {
     pub answer: Answer,
     pub tables: Tables,
+}
+
+// What is told of a line of the session: that it is bad, the answer of its image, or the answer to its event.
+pub enum Reply {
+    Bad,
+    Image(Answer),
+    Event(Answer),
 }

@@ -1,10 +1,10 @@
 -- What each thing that a line can ask for comes to.
 use mathlib.Core.Path.{_≡_, refl, sym, ap, _∙_}
 use mathlib.Core.Bool.{true, false}
-use mathlib.Core.List.{List, [], _∷_, _++_}
+use mathlib.Core.List.{List}
 use Prim.Native.Nat.{ℕ, _<_}
 use native.Mathlib.Omega.{arith}
-use lib.ListN.{length, take}
+use lib.ListN.{length}
 use lib.Seq.{set-getD}
 use Rattle.rules.specs.declared.Answer.{Answer}
 use Rattle.rules.specs.declared.Event.{Event}
@@ -12,15 +12,15 @@ use Rattle.rules.specs.declared.Loaded.{Loaded}
 use Rattle.rules.specs.declared.Plant.{Plant}
 use Rattle.rules.specs.declared.Refusal.{Refusal}
 use Rattle.rules.specs.declared.Tables.{Tables}
+use Rattle.rules.specs.declared.Reply.{Reply}
 use Rattle.rules.specs.Limits.{guestLimit}
 use Rattle.rules.specs.Kept.{hollowGuest, guestAt, plantAt, extentsOf, withPlant}
 use Rattle.rules.specs.Real.{sightOf}
-use Rattle.rules.specs.Statuses.{numbers}
 use Rattle.rules.specs.Image.{load}
 use Rattle.rules.specs.Host.{HostOutcome, plantRule, longEnough, hostEvent}
 use Rattle.rules.specs.Tables.{keepRules}
-use Rattle.rules.specs.Text.{Line, bad, image, event, parse, lineFeed, badWord, spaced}
-use Rattle.rules.specs.Session.{Session, afterEvent, answered}
+use Rattle.rules.specs.Text.{Line, bad, image, event, parse}
+use Rattle.rules.specs.Session.{Session, afterEvent, replied, textOf, printedAs, answered}
 use Rattle.records.specs.declared.Verdict.{Verdict}
 use Rattle.records.specs.Sound.{Sound}
 use Rattle.plants.specs.declared.change.Done.{Done}
@@ -33,23 +33,8 @@ use Rattle.host.proofs.EntryLaws.{entry-tells, seat-told, seat-sound, seat-refu
 use Rattle.kept.proofs.Tables.{event-keeps}
 use Rattle.kept.proofs.Steady.{long-same, event-steady}
 use Rattle.text.specs.Lines.{imageOf}
-use Rattle.text.specs.Printed.{statusText, answerText}
 use Rattle.session.specs.declared.ask.Asked.{Asked}
-use Rattle.session.specs.declared.reply.Reply.{Reply}
 use Rattle.session.specs.Asking.{asked, askedOf}
-use Rattle.session.specs.Replies.{replyText}
-
--- a reply's text without its line feed
-unfoldable pub says : Reply → List ℕ
-says Reply.Bad = badWord
-says (Reply.Image answer) = spaced (take 1 (numbers answer))
-says (Reply.Event answer) = spaced (numbers answer)
-
-pub reply-says : (reply : Reply) → says reply ++ (lineFeed ∷ []) ≡ replyText reply
-unfolding says replyText statusText answerText
-reply-says Reply.Bad = refl
-reply-says (Reply.Image answer) = refl
-reply-says (Reply.Event answer) = refl
 
 module _ (tables : Tables) (memory line : List ℕ) where
   abbrev session : Session
@@ -59,23 +44,23 @@ module _ (tables : Tables) (memory line : List ℕ) where
   entry = entryOf tables (length memory)
 
   -- no line
-  pub answers-bad : (v : Verdict) → Asked.Bad ≡ asked tables v (parse line) → answered session (parse line) ≡ record { session = session; text = says Reply.Bad }
-  unfolding asked askedOf answered says
+  pub answers-bad : (v : Verdict) → Asked.Bad ≡ asked tables v (parse line) → answered session (parse line) ≡ record { session = session; text = textOf Reply.Bad }
+  unfolding asked askedOf answered replied textOf
   answers-bad v = go (parse line)
     where
       none : (e : Event) (s : Seat) → seatOf tables v e ≡ s → Asked.Bad ≡ askedOf tables v e → ⊥
       none e (Seat.Refused r) q p = let z : _≡_ {A = ℕ} 0 1 = cc (p, q) in absurd (omega arith)
       none e (Seat.Guest g) q p = let z : _≡_ {A = ℕ} 0 1 = cc (p, q) in absurd (omega arith)
 
-      go : (l : Line) → Asked.Bad ≡ asked tables v l → answered session l ≡ record { session = session; text = says Reply.Bad }
+      go : (l : Line) → Asked.Bad ≡ asked tables v l → answered session l ≡ record { session = session; text = textOf Reply.Bad }
       go bad p = refl
       go (image bytes) p = let z : _≡_ {A = ℕ} 0 1 = cc in absurd (omega arith)
       go (event e) p = absurd (none e (seatOf tables v e) refl p)
 
   -- an image
   answers-image : (v : Verdict) → Asked.Image ≡ asked tables v (parse line)
-      → answered session (parse line) ≡ record { session = record { tables = load (imageOf (parse line)) .tables; memory = memory }; text = says (Reply.Image (load (imageOf (parse line)) .answer)) }
-  unfolding asked askedOf answered says imageOf
+      → answered session (parse line) ≡ record { session = record { tables = load (imageOf (parse line)) .tables; memory = memory }; text = textOf (Reply.Image (load (imageOf (parse line)) .answer)) }
+  unfolding asked askedOf answered replied textOf imageOf
   answers-image v = go (parse line)
     where
       none : (e : Event) (s : Seat) → seatOf tables v e ≡ s → Asked.Image ≡ askedOf tables v e → ⊥
@@ -83,29 +68,29 @@ module _ (tables : Tables) (memory line : List ℕ) where
       none e (Seat.Guest g) q p = let z : _≡_ {A = ℕ} 0 1 = cc (p, q) in absurd (omega arith)
 
       go : (l : Line) → Asked.Image ≡ asked tables v l
-          → answered session l ≡ record { session = record { tables = load (imageOf l) .tables; memory = memory }; text = says (Reply.Image (load (imageOf l) .answer)) }
+          → answered session l ≡ record { session = record { tables = load (imageOf l) .tables; memory = memory }; text = textOf (Reply.Image (load (imageOf l) .answer)) }
       go bad p = let z : _≡_ {A = ℕ} 0 1 = cc in absurd (omega arith)
       go (image bytes) p = refl
       go (event e) p = absurd (none e (seatOf tables v e) refl p)
 
   pub answers-loaded : (v : Verdict) (r : Loaded) → Asked.Image ≡ asked tables v (parse line) → r ≡ load (imageOf (parse line))
-      → answered session (parse line) ≡ record { session = record { tables = r .tables; memory = memory }; text = says (Reply.Image (r .answer)) }
+      → answered session (parse line) ≡ record { session = record { tables = r .tables; memory = memory }; text = textOf (Reply.Image (r .answer)) }
   answers-loaded v r p e = rw e (answers-image v p)
 
   -- an event that no guest answers
   pub answers-refused : (r : Refusal) → Asked.Refused r ≡ asked tables entry (parse line)
-      → answered session (parse line) ≡ record { session = session; text = says (Reply.Event (Answer.Refused r)) }
-  unfolding asked askedOf answered says
+      → answered session (parse line) ≡ record { session = session; text = textOf (Reply.Event (Answer.Refused r)) }
+  unfolding asked askedOf answered replied textOf
   answers-refused r = go (parse line)
     where
       of : (e : Event) (s : Seat) → seatOf tables entry e ≡ s → Asked.Refused r ≡ askedOf tables entry e → seatOf tables entry e ≡ Seat.Refused r
       of e (Seat.Refused x) q p = let w : x ≡ r = cc (p, q) in q ∙ ap Seat.Refused w
       of e (Seat.Guest g) q p = let z : _≡_ {A = ℕ} 0 1 = cc (p, q) in absurd (omega arith)
 
-      go : (l : Line) → Asked.Refused r ≡ asked tables entry l → answered session l ≡ record { session = session; text = says (Reply.Event (Answer.Refused r)) }
+      go : (l : Line) → Asked.Refused r ≡ asked tables entry l → answered session l ≡ record { session = session; text = textOf (Reply.Event (Answer.Refused r)) }
       go bad p = let z : _≡_ {A = ℕ} 0 1 = cc in absurd (omega arith)
       go (image bytes) p = let z : _≡_ {A = ℕ} 0 1 = cc in absurd (omega arith)
-      go (event e) p = ap afterEvent (seat-refuses tables memory e r (of e (seatOf tables entry e) refl p))
+      go (event e) p = ap (λ (o : HostOutcome). printedAs (afterEvent o)) (seat-refuses tables memory e r (of e (seatOf tables entry e) refl p))
 
   -- an event of a guest that is there
   pub guest-seated : (g : ℕ) (e : Event) → Asked.Guest g e ≡ asked tables entry (parse line) → (parse line ≡ event e) × (seatOf tables entry e ≡ Seat.Guest g)
@@ -145,9 +130,9 @@ module _ (tables : Tables) (memory line : List ℕ) where
         outcome : hostEvent tables memory e ≡ record { answer = d .answer; tables = next; memory = after }
         outcome = seat-follows tables memory e g d after (guest-seated g e p .1) f ∙ (λ i. record { answer = d .answer; tables = sym n i; memory = after })
 
-        pub answers-guest : answered session (parse line) ≡ record { session = record { tables = next; memory = after }; text = says (Reply.Event (d .answer)) }
-        unfolding answered says
-        answers-guest = rw (guest-seated g e p .0) (ap afterEvent outcome)
+        pub answers-guest : answered session (parse line) ≡ record { session = record { tables = next; memory = after }; text = textOf (Reply.Event (d .answer)) }
+        unfolding answered replied textOf
+        answers-guest = rw (guest-seated g e p .0) (ap (λ (o : HostOutcome). printedAs (afterEvent o)) outcome)
 
         right : (keepRules tables ≡ true) × (longEnough tables (length memory) ≡ true)
         right = entry-tells tables (length memory) (seat-told tables (length memory) e entry g (guest-seated g e p .1) .0)

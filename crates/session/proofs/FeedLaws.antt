@@ -10,17 +10,16 @@ use lib.Seq.{sets, drop-cons, length-take-le, length-sets, getD-take}
 use borrow.Author.Tests.{eq-eqb, ne-eqb, lt-ltb, le-ltb}
 use Rattle.rules.specs.declared.Loaded.{Loaded}
 use Rattle.rules.specs.declared.Tables.{Tables}
+use Rattle.rules.specs.declared.Reply.{Reply}
 use Rattle.rules.specs.Image.{load}
 use Rattle.rules.proofs.Computing.{computing}
 use Rattle.rules.specs.Text.{parse, lineFeed}
-use Rattle.rules.specs.Session.{answered}
+use Rattle.rules.specs.Session.{textOf, answered}
 use Rattle.text.proofs.Stores.{sets-append}
 use Rattle.session.specs.declared.feeder.Fed.{Fed}
 use Rattle.session.specs.declared.feeder.Feeder.{Feeder}
-use Rattle.session.specs.declared.reply.Reply.{Reply}
 use Rattle.session.specs.Replies.{replyText}
 use Rattle.session.specs.Feeding.{Progress, next, fed, room, feedOf, lineLimit, Feeds, ending, atFirst}
-use Rattle.session.proofs.Answers.{says, reply-says}
 use Rattle.session.proofs.ReplyLaws.{reply-most}
 
 abbrev pub at : Tables → List ℕ → List ℕ → ℕ → List ℕ → Progress
@@ -72,11 +71,11 @@ module _ (start : Progress) (bytes before : List ℕ) (tables : Tables) (memory 
 
     -- the end of the line, and the reply to it
     module _ (n : b ≡ lineFeed) (reply : Reply) (tables′ : Tables) (memory′ : List ℕ)
-        (a : answered (record { tables = tables; memory = memory }) (parse (take held line)) ≡ record { session = record { tables = tables′; memory = memory′ }; text = says reply })
+        (a : answered (record { tables = tables; memory = memory }) (parse (take held line)) ≡ record { session = record { tables = tables′; memory = memory′ }; text = textOf reply })
         (r : ℕ) (o : List ℕ) (w : (r ≡ count + length (replyText reply)) × (o ≡ sets out count (replyText reply))) where
       ended-text : next here b ≡ at tables′ memory′ line 0 (f .text ++ replyText reply)
-      unfolding next
-      ended-text = rw (eq-eqb b lineFeed n, a, reply-says reply)
+      unfolding next replyText
+      ended-text = rw (eq-eqb b lineFeed n, a)
 
       pub feeding-reply : Feeding start bytes before tables′ memory′ line 0 r (i + 1) o
       feeding-reply = record {
@@ -169,7 +168,7 @@ module _ (start : Progress) (piece before memory₀ : List ℕ) (n : ℕ) (table
       )
 
     module _ (o : b ≡ lineFeed) (reply : Reply) (tables′ : Tables) (memory′ : List ℕ) (k : length memory′ ≡ length memory)
-        (a : answered (record { tables = tables; memory = memory }) (parse (take held line)) ≡ record { session = record { tables = tables′; memory = memory′ }; text = says reply })
+        (a : answered (record { tables = tables; memory = memory }) (parse (take held line)) ≡ record { session = record { tables = tables′; memory = memory′ }; text = textOf reply })
         (r : ℕ) (out′ : List ℕ) (w : (r ≡ count + length (replyText reply)) × (out′ ≡ sets out count (replyText reply))) where
       pub turn-reply : Room piece before memory₀ n memory′ out′ line 0 r (i + 1)
           × Feeding start (take n piece) before tables′ memory′ line 0 r (i + 1) out′

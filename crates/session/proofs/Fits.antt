@@ -13,7 +13,7 @@ use Rattle.rules.specs.Host.{hostEvent}
 use Rattle.rules.specs.Rulings.{if_then_else_}
 use Rattle.rules.specs.Statuses.{numbers}
 use Rattle.rules.specs.Text.{Line, bad, image, event, parse, lineFeed, spaced}
-use Rattle.rules.specs.Session.{Session, answered}
+use Rattle.rules.specs.Session.{Session, replied, textOf, answered}
 use Rattle.text.specs.Printed.{statusText, answerText}
 use Rattle.text.proofs.PrintLaws.{answer-most, status-most}
 use Rattle.session.specs.declared.feeder.Fed.{Fed}
@@ -30,7 +30,7 @@ unfolding answerText
 event-few a = omega (arith, rw length-append at (answer-most a))
 
 answer-few : (s : Session) (l : Line) → length (answered s l .text) ≤ 84
-unfolding answered
+unfolding answered replied textOf
 answer-few s bad = omega arith
 answer-few s (image bytes) = status-few (load bytes .answer)
 answer-few s (event e) = event-few (hostEvent (s .tables) (s .memory) e .answer)

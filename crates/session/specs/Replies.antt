@@ -1,10 +1,9 @@
--- The text of a reply, with its line feed.
+-- The line that is printed for a reply: its text, with its line feed.
 use Prim.Native.Nat.{ℕ}
-use mathlib.Core.List.{List}
-use Rattle.text.specs.Printed.{badText, statusText, answerText}
-use Rattle.session.specs.declared.reply.Reply.{Reply}
+use mathlib.Core.List.{List, [], _∷_, _++_}
+use Rattle.rules.specs.declared.Reply.{Reply}
+use Rattle.rules.specs.Text.{lineFeed}
+use Rattle.rules.specs.Session.{textOf}
 
 unfoldable pub replyText : Reply → List ℕ
-replyText Reply.Bad = badText
-replyText (Reply.Image answer) = statusText answer
-replyText (Reply.Event answer) = answerText answer
+replyText reply = textOf reply ++ (lineFeed ∷ [])

@@ -5,10 +5,10 @@ use crate::ask::Asked;
 use crate::ask::ask;
 use crate::ask::load_line;
 use crate::reply::REPLY;
-use crate::reply::Reply;
 use crate::reply::put_reply;
 use memory::least;
 use rules::Answer;
+use rules::Reply;
 use rules::Tables;
 
 // As many bytes as are kept of a line: one more than the longest has, which is enough to tell that it is too long.

@@ -4,19 +4,12 @@ ghost use Prim.Native.Nat.{_+_, _≤_};
 ghost use lib.ListN.{length};
 ghost use lib.Seq.{sets};
 ghost use Rattle.session.specs.Replies.{replyText};
-use rules::Answer;
+use rules::Reply;
 
 // The longest reply, a status and four values of 16 digits, has 85 bytes.
 pub const REPLY: usize = 96;
 
-// What is told of a line: that it is bad, the status of its image, or the answer to its event.
-pub enum Reply {
-    Bad,
-    Image(Answer),
-    Event(Answer),
-}
-
-// Its text, with the line feed, to the front of a buffer.
+// The text of a reply, with the line feed, to the front of a buffer.
 fn put_text(reply: Reply, text: &mut [u8; REPLY]) -> usize
     ensures { λ r. ⌜ (r ≡ length (replyText reply)) × (now (text .exit) ≡ sets (now (text .entry)) 0 (replyText reply)) ⌝ }
 {
@@ -27,7 +20,7 @@ fn put_text(reply: Reply, text: &mut [u8; REPLY]) -> usize
     }
 }
 
-// Its text from the place at on, and the place behind it.
+// The same from the place at on, and the place behind it.
 pub(crate) fn put_reply(reply: Reply, out: &mut [u8], at: usize) -> usize
     requires { ⌜ at + 96 ≤ length (now out) ⌝ }
     ensures { λ r. ⌜ (r ≡ at + length (replyText reply)) × (now (out .exit) ≡ sets (now (out .entry)) at (replyText reply)) ⌝ }

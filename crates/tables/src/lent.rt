@@ -5,9 +5,8 @@ ghost use Rattle.tables.specs.Lists.{runWithin};
 use partition::RUNS;
 use partition::runs;
 use rules::Extent;
+use rules::PAGE_SIZE;
 use rules::Tables;
-
-const PAGE_SIZE: usize = 8192;
 
 // Memory of n bytes has all the pages of the run.
 fn run_within(n: usize, x: Extent) -> bool

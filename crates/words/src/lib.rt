@@ -5,6 +5,7 @@ use plants::told;
 use records::Verdict;
 use rules::Answer;
 use rules::Extents;
+use rules::PAGE_SIZE;
 use rules::Real;
 use rules::Refusal;
 ghost use mathlib.Core.Path.{_≡_};
@@ -20,7 +21,7 @@ ghost use Rattle.plants.specs.Done.{quietly};
 ghost use Rattle.plants.specs.Follows.{Follows};
 ghost use Rattle.plants.specs.Judged.{judged};
 
-const PAGE: u64 = 8192;
+const PAGE: u64 = PAGE_SIZE as u64;
 
 // A scrub zeroes at most so many bytes.
 const SCRUB: u64 = 32768;

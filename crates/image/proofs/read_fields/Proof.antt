@@ -3,13 +3,14 @@ use borrow.Author.Needs.{needs}
 use Prim.Native.Nat.{_+_, _-_, _*_, _≤_}
 use native.Mathlib.Omega.{arith}
 use Rattle.rules.specs.Limits.{guestLimit}
+use Rattle.rules.specs.Widths.{headerBits}
 use Rattle.image.proofs.GuestLaws.{guestBits, behind-most}
 use Rattle.image.proofs.FieldsLaws.{Left, left-start, left-next, header-most, fields-header, fields-refused, fields-read}
 use Rattle.image.proofs.read_fields.Statement.{statement}
 use Rattle.image.proofs.read_fields.Tie as tie
 
 abbrev Inv-loop : tie.InvT-loop
-Inv-loop s guests guest₀ at₀ i₀ guest at i = (guests ≤ guestLimit) × ((i ≤ guests) × ((at ≤ 8 + guestBits * i) × Left s guests i at guest))
+Inv-loop s guests guest₀ at₀ i₀ guest at i = (guests ≤ guestLimit) × ((i ≤ guests) × ((at ≤ headerBits + guestBits * i) × Left s guests i at guest))
 
 abbrev μ-loop : tie.MeasureT-loop
 μ-loop s guests guest₀ at₀ i₀ guest at i = guests - i

@@ -6,7 +6,7 @@ use native.Mathlib.Omega.{arith}
 use borrow.Author.Needs.{needs}
 use borrow.Author.Tests.{not-true, not-false}
 use Rattle.rules.specs.Scan.{allBelow}
-use Rattle.rules.specs.Tsb.{insideMask}
+use Rattle.rules.specs.Tsb.{_is-inside_}
 use Rattle.rules.proofs.Scan.{all-start, all-next, all-end, all-fails}
 use Rattle.records.specs.Masks.{maskBitRight}
 use Rattle.records.proofs.inside_mask.Statement.{statement}
@@ -25,7 +25,7 @@ mask-bit-right-requires : tie.Need-mask-bit-right-requires Inv-loop μ-loop
 mask-bit-right-requires c κs = search needs
 
 returns : tie.Need-returns Inv-loop μ-loop
-unfolding insideMask maskBitRight
+unfolding _is-inside_ maskBitRight
 returns c = all-fails _ _ 32 _ (omega arith) (c .before .mask-bit-right .ensures) (not-true _ (c .if1 .taken))
 
 add-k : tie.Need-add-k Inv-loop μ-loop
@@ -38,7 +38,7 @@ loop-again : tie.Need-loop-again Inv-loop μ-loop
 loop-again c = (omega arith, all-next _ _ _ (c .before .before .before .loop .inv .1) (c .before .mask-bit-right .ensures) (not-false _ (c .if1 .left)))
 
 returns-2 : tie.Need-returns-2 Inv-loop μ-loop
-unfolding insideMask maskBitRight
+unfolding _is-inside_ maskBitRight
 returns-2 c = search all-end
 
 pub inside-mask-spec : {M : Type 1} → statement M

@@ -3,7 +3,7 @@ use mathlib.Core.Path.{sym, _∙_}
 use native.Mathlib.Omega.{arith}
 use borrow.Author.Needs.{needs}
 use borrow.Author.Tests.{not-false}
-use Rattle.records.proofs.Powers.{power-least, power-most}
+use Rattle.records.proofs.Powers.{at-least, at-most}
 use Rattle.records.proofs.Verdicts.{ring-size, ring-align, ring-range, ring-right}
 use Rattle.records.proofs.judge_ring.Statement.{statement}
 use Rattle.records.proofs.judge_ring.Tie as tie
@@ -15,10 +15,10 @@ returns : tie.Need-returns
 returns c = search ring-size
 
 mul-size : tie.Need-mul-size
-mul-size c = omega (arith, power-most 2 7 _ (sym (c .before .ring-entries .ensures) ∙ not-false _ (c .if1 .left)))
+mul-size c = omega (arith, at-most _ 2 256 (sym (c .before .ring-entries .ensures) ∙ not-false _ (c .if1 .left)))
 
 rem-if2 : tie.Need-rem-if2
-rem-if2 c = omega (arith, power-least 2 8 _ (sym (c .before .ring-entries .ensures) ∙ not-false _ (c .if1 .left)))
+rem-if2 c = omega (arith, at-least _ 2 256 (sym (c .before .ring-entries .ensures) ∙ not-false _ (c .if1 .left)))
 
 returns-2 : tie.Need-returns-2
 returns-2 c = search ring-align

@@ -1,14 +1,22 @@
--- `records::ring_entries` meets its contract: its match is the test of the 8 numbers from 2 on.
-use mathlib.Core.Path.{sym}
-use Rattle.records.proofs.Powers.{a-power, no-power}
+-- `records::ring_entries` meets its contract: its match is on the powers of two from 2 to 256.
+use mathlib.Core.List.{List, [], _∷_}
+use mathlib.Core.Path.{refl, sym}
+use Prim.Native.Nat.{ℕ}
+use Rattle.rules.proofs.Computing.{computing}
+use Rattle.records.proofs.Powers.{is-power, is-none}
 use Rattle.records.proofs.ring_entries.Statement.{statement}
 use Rattle.records.proofs.ring_entries.Tie as tie
 
+abbrev sizes : List ℕ
+sizes = 2 ∷ 4 ∷ 8 ∷ 16 ∷ 32 ∷ 64 ∷ 128 ∷ 256 ∷ []
+
 returns : tie.Need-returns
-returns c = sym (a-power 2 8 (c .before .args .n) (c .match .keys1))
+unfolding computing
+returns c = sym (is-power 2 256 sizes refl (c .before .args .n) (c .match .keys1))
 
 returns-2 : tie.Need-returns-2
-returns-2 c = sym (no-power 2 8 (c .before .args .n) (c .match .rest .1))
+unfolding computing
+returns-2 c = sym (is-none 2 256 sizes refl (c .before .args .n) (c .match .rest .1))
 
 pub ring-entries-spec : {M : Type 1} → statement M
 ring-entries-spec = tie.close (tie.spec returns returns-2)

@@ -5,7 +5,8 @@ use Prim.Native.Nat.{_+_, _-_, _*_, _≤_}
 use native.Mathlib.Omega.{arith}
 use Rattle.rules.specs.Limits.{extentLimit}
 use Rattle.rules.specs.Kept.{blankExtent}
-use Rattle.rules.specs.Image.{readExtent, extentBits, filled}
+use Rattle.rules.specs.Widths.{extentBits}
+use Rattle.rules.specs.Image.{readExtent, filled}
 use Rattle.image.proofs.FillLaws.{filled-start, filled-next, filled-end}
 use Rattle.image.proofs.guest.read_extents.Statement.{statement}
 use Rattle.image.proofs.guest.read_extents.Tie as tie

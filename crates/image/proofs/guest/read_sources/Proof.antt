@@ -5,7 +5,8 @@ use Prim.Native.Nat.{_+_, _-_, _*_, _≤_}
 use native.Mathlib.Omega.{arith}
 use Rattle.rules.specs.Limits.{sourceLimit}
 use Rattle.rules.specs.Kept.{blankSource}
-use Rattle.rules.specs.Image.{readSource, sourceBits, filled}
+use Rattle.rules.specs.Widths.{sourceBits}
+use Rattle.rules.specs.Image.{readSource, filled}
 use Rattle.image.proofs.FillLaws.{filled-start, filled-next, filled-end}
 use Rattle.image.proofs.guest.read_sources.Statement.{statement}
 use Rattle.image.proofs.guest.read_sources.Tie as tie

@@ -1,5 +1,4 @@
 -- `reason::put_status` meets its contract: no number, or the number of a status.
-use Rattle.rules.proofs.WorkedText.{bytesOf}
 use Rattle.reasons.proofs.WordLaws.{status-none, status-is}
 use borrow.Author.Needs.{needs}
 use Rattle.reasons.proofs.reason.put_status.Statement.{statement}
@@ -24,7 +23,6 @@ put-meaning-requires : tie.Need-put-meaning-requires
 put-meaning-requires c κs = search needs
 
 returns : tie.Need-returns
-unfolding bytesOf
 returns c = status-none _ _ _ _ _ (c .before .before .before .before .before .read-number .ensures) (c .before .before .before .enum-told .given .1) (c .put-text .ensures)
 
 returns-2 : tie.Need-returns-2

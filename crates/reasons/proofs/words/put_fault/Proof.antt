@@ -4,7 +4,7 @@ use mathlib.Core.List.{List}
 use Rattle.reasons.specs.declared.fault.Fault.the-variants.{TooLong, CarriageReturn, OtherWord, EmptyField, NoNumber, TooFew, TooMany, NoDigit, OddDigits}
 use Rattle.reasons.specs.declared.fault.Fault.{Fault}
 use Rattle.reasons.specs.Words.{decimal, faultText, fed}
-use Rattle.rules.proofs.WorkedText.{bytesOf}
+use Rattle.rules.specs.Text.{bytesOf}
 use Rattle.reasons.proofs.WordLaws.{put-fed}
 use Rattle.reasons.proofs.PutLaws.{put-at}
 use borrow.Author.Needs.{needs}
@@ -96,39 +96,39 @@ put-text-requires-5 : tie.Need-put-text-requires-5
 put-text-requires-5 c κs = search needs
 
 returns : tie.Need-returns
-unfolding faultText bytesOf
+unfolding faultText
 returns c = put-at said _ TooLong _ _ _ _ (c .before .before .before .enum-told .given .1) (c .put-text .ensures)
 
 returns-2 : tie.Need-returns-2
-unfolding faultText bytesOf
+unfolding faultText
 returns-2 c = put-at said _ CarriageReturn _ _ _ _ (c .before .before .before .enum-told2 .given .1) (c .put-text2 .ensures)
 
 returns-3 : tie.Need-returns-3
-unfolding faultText bytesOf
+unfolding faultText
 returns-3 c = put-at said _ OtherWord _ _ _ _ (c .before .before .before .enum-told3 .given .1) (c .put-text3 .ensures)
 
 returns-4 : tie.Need-returns-4
-unfolding faultText bytesOf
+unfolding faultText
 returns-4 c = put-at said _ (EmptyField _) _ _ _ _ (c .before .before .before .before .fault .given .1) (put-fed (bytesOf "field ") (decimal _) (bytesOf " is empty: a space too many") _ _ _ _ (c .put-field .ensures))
 
 returns-5 : tie.Need-returns-5
-unfolding faultText bytesOf
+unfolding faultText
 returns-5 c = put-at said _ (NoNumber _) _ _ _ _ (c .before .before .before .before .fault2 .given .1) (put-fed (bytesOf "field ") (decimal _) (bytesOf " is not 1 to 16 hex digits") _ _ _ _ (c .put-field2 .ensures))
 
 returns-6 : tie.Need-returns-6
-unfolding faultText bytesOf
+unfolding faultText
 returns-6 c = put-at said _ (TooFew _) _ _ _ _ (c .before .before .before .before .fault3 .given .1) (c .put-count .ensures)
 
 returns-7 : tie.Need-returns-7
-unfolding faultText bytesOf
+unfolding faultText
 returns-7 c = put-at said _ (TooMany _) _ _ _ _ (c .before .before .before .before .fault4 .given .1) (c .put-count2 .ensures)
 
 returns-8 : tie.Need-returns-8
-unfolding faultText bytesOf
+unfolding faultText
 returns-8 c = put-at said _ NoDigit _ _ _ _ (c .before .before .before .enum-told4 .given .1) (c .put-text4 .ensures)
 
 returns-9 : tie.Need-returns-9
-unfolding faultText bytesOf
+unfolding faultText
 returns-9 c = put-at said _ OddDigits _ _ _ _ (c .before .before .before .enum-told5 .given .1) (c .put-text5 .ensures)
 
 pub put-fault-spec : {M : Type 1} → statement M

@@ -1,5 +1,5 @@
 -- `words::put_field` meets its contract: three texts behind each other.
-use Rattle.rules.proofs.WorkedText.{bytesOf}
+use Rattle.rules.specs.Text.{bytesOf}
 use Rattle.reasons.proofs.PutLaws.{put-behind, decimal-most}
 use native.Mathlib.Omega.{arith}
 use borrow.Author.Needs.{needs}
@@ -19,7 +19,6 @@ put-text-requires-2 : tie.Need-put-text-requires-2
 put-text-requires-2 c κs = omega (arith, decimal-most 20 (c .before .before .before .before .before .before .before .args .k), c .before .before .before .put-text .ensures .behind, c .before .put-decimal .ensures .behind)
 
 returns : tie.Need-returns
-unfolding bytesOf
 returns c = put-behind (bytesOf "field ") _ _ _ _ _ _ _ (c .before .before .before .before .put-text .ensures) (put-behind _ _ _ _ _ _ _ _ (c .before .before .put-decimal .ensures) (c .put-text2 .ensures))
 
 pub put-field-spec : {M : Type 1} → statement M

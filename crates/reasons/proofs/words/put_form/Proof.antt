@@ -1,7 +1,6 @@
 -- `words::put_form` meets its contract: an arm each.
 use Rattle.reasons.specs.declared.fault.Word.the-variants.{Call, Head, Raise, Load, Store}
 use Rattle.reasons.specs.Words.{form, fed}
-use Rattle.rules.proofs.WorkedText.{bytesOf}
 use Rattle.reasons.proofs.PutLaws.{put-at}
 use borrow.Author.Needs.{needs}
 use Rattle.reasons.proofs.words.put_form.Statement.{statement}
@@ -53,23 +52,23 @@ put-text-requires-5 : tie.Need-put-text-requires-5
 put-text-requires-5 c κs = search needs
 
 returns : tie.Need-returns
-unfolding form bytesOf
+unfolding form
 returns c = put-at (λ word. fed (form word)) _ Call _ _ _ _ (c .before .before .before .enum-told .given .1) (c .put-text .ensures)
 
 returns-2 : tie.Need-returns-2
-unfolding form bytesOf
+unfolding form
 returns-2 c = put-at (λ word. fed (form word)) _ Head _ _ _ _ (c .before .before .before .enum-told2 .given .1) (c .put-text2 .ensures)
 
 returns-3 : tie.Need-returns-3
-unfolding form bytesOf
+unfolding form
 returns-3 c = put-at (λ word. fed (form word)) _ Raise _ _ _ _ (c .before .before .before .enum-told3 .given .1) (c .put-text3 .ensures)
 
 returns-4 : tie.Need-returns-4
-unfolding form bytesOf
+unfolding form
 returns-4 c = put-at (λ word. fed (form word)) _ Load _ _ _ _ (c .before .before .before .enum-told4 .given .1) (c .put-text4 .ensures)
 
 returns-5 : tie.Need-returns-5
-unfolding form bytesOf
+unfolding form
 returns-5 c = put-at (λ word. fed (form word)) _ Store _ _ _ _ (c .before .before .before .enum-told5 .given .1) (c .put-text5 .ensures)
 
 pub put-form-spec : {M : Type 1} → statement M

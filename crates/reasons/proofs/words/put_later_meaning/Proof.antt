@@ -2,7 +2,7 @@
 use Prim.Native.Nat.{ℕ}
 use mathlib.Core.List.{List}
 use Rattle.reasons.specs.Words.{meanings, meaningIn, noMeaning, fed}
-use Rattle.rules.proofs.WorkedText.{bytesOf}
+use Rattle.rules.specs.Text.{bytesOf}
 use Rattle.reasons.proofs.WordLaws.{none-of}
 use Rattle.reasons.proofs.PutLaws.{put-at}
 use lib.ListN.{drop}
@@ -68,39 +68,39 @@ put-text-requires-9 : tie.Need-put-text-requires-9
 put-text-requires-9 c κs = search needs
 
 returns : tie.Need-returns
-unfolding meanings meaningIn bytesOf
+unfolding meanings meaningIn
 returns c = put-at said _ 9 _ _ _ _ (c .before .before .before .match .keys1) (c .put-text .ensures)
 
 returns-2 : tie.Need-returns-2
-unfolding meanings meaningIn bytesOf
+unfolding meanings meaningIn
 returns-2 c = put-at said _ 13 _ _ _ _ (c .before .before .before .match .keys2) (c .put-text2 .ensures)
 
 returns-3 : tie.Need-returns-3
-unfolding meanings meaningIn bytesOf
+unfolding meanings meaningIn
 returns-3 c = put-at said _ 101 _ _ _ _ (c .before .before .before .match .keys3) (c .put-text3 .ensures)
 
 returns-4 : tie.Need-returns-4
-unfolding meanings meaningIn bytesOf
+unfolding meanings meaningIn
 returns-4 c = put-at said _ 102 _ _ _ _ (c .before .before .before .match .keys4) (c .put-text4 .ensures)
 
 returns-5 : tie.Need-returns-5
-unfolding meanings meaningIn bytesOf
+unfolding meanings meaningIn
 returns-5 c = put-at said _ 103 _ _ _ _ (c .before .before .before .match .keys5) (c .put-text5 .ensures)
 
 returns-6 : tie.Need-returns-6
-unfolding meanings meaningIn bytesOf
+unfolding meanings meaningIn
 returns-6 c = put-at said _ 104 _ _ _ _ (c .before .before .before .match .keys6) (c .put-text6 .ensures)
 
 returns-7 : tie.Need-returns-7
-unfolding meanings meaningIn bytesOf
+unfolding meanings meaningIn
 returns-7 c = put-at said _ 110 _ _ _ _ (c .before .before .before .match .keys7) (c .put-text7 .ensures)
 
 returns-8 : tie.Need-returns-8
-unfolding meanings meaningIn bytesOf
+unfolding meanings meaningIn
 returns-8 c = put-at said _ 111 _ _ _ _ (c .before .before .before .match .keys8) (c .put-text8 .ensures)
 
 returns-9 : tie.Need-returns-9
-unfolding meanings meaningIn bytesOf
+unfolding meanings meaningIn
 returns-9 c = put-at (λ words. fed (bytesOf words)) _ noMeaning _ _ _ _ (none-of 8 (drop 8 meanings) _ (c .before .before .before .match .rest)) (c .put-text9 .ensures)
 
 pub put-later-meaning-spec : {M : Type 1} → statement M

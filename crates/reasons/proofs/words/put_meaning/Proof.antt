@@ -2,7 +2,7 @@
 use Prim.Native.Nat.{ℕ}
 use mathlib.Core.List.{List}
 use Rattle.reasons.specs.Words.{meanings, meaningIn, meaning, fed}
-use Rattle.rules.proofs.WorkedText.{bytesOf}
+use Rattle.rules.specs.Text.{bytesOf}
 use Rattle.reasons.proofs.WordLaws.{none-of}
 use Rattle.reasons.proofs.PutLaws.{put-at}
 use lib.ListN.{drop}
@@ -65,35 +65,35 @@ put-later-meaning-requires : tie.Need-put-later-meaning-requires
 put-later-meaning-requires c κs = search needs
 
 returns : tie.Need-returns
-unfolding meanings meaningIn bytesOf
+unfolding meanings meaningIn
 returns c = put-at said _ 0 _ _ _ _ (c .before .before .before .match .keys1) (c .put-text .ensures)
 
 returns-2 : tie.Need-returns-2
-unfolding meanings meaningIn bytesOf
+unfolding meanings meaningIn
 returns-2 c = put-at said _ 1 _ _ _ _ (c .before .before .before .match .keys2) (c .put-text2 .ensures)
 
 returns-3 : tie.Need-returns-3
-unfolding meanings meaningIn bytesOf
+unfolding meanings meaningIn
 returns-3 c = put-at said _ 2 _ _ _ _ (c .before .before .before .match .keys3) (c .put-text3 .ensures)
 
 returns-4 : tie.Need-returns-4
-unfolding meanings meaningIn bytesOf
+unfolding meanings meaningIn
 returns-4 c = put-at said _ 4 _ _ _ _ (c .before .before .before .match .keys4) (c .put-text4 .ensures)
 
 returns-5 : tie.Need-returns-5
-unfolding meanings meaningIn bytesOf
+unfolding meanings meaningIn
 returns-5 c = put-at said _ 5 _ _ _ _ (c .before .before .before .match .keys5) (c .put-text5 .ensures)
 
 returns-6 : tie.Need-returns-6
-unfolding meanings meaningIn bytesOf
+unfolding meanings meaningIn
 returns-6 c = put-at said _ 6 _ _ _ _ (c .before .before .before .match .keys6) (c .put-text6 .ensures)
 
 returns-7 : tie.Need-returns-7
-unfolding meanings meaningIn bytesOf
+unfolding meanings meaningIn
 returns-7 c = put-at said _ 7 _ _ _ _ (c .before .before .before .match .keys7) (c .put-text7 .ensures)
 
 returns-8 : tie.Need-returns-8
-unfolding meanings meaningIn bytesOf
+unfolding meanings meaningIn
 returns-8 c = put-at said _ 8 _ _ _ _ (c .before .before .before .match .keys8) (c .put-text8 .ensures)
 
 returns-9 : tie.Need-returns-9

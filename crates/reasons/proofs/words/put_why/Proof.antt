@@ -1,7 +1,6 @@
 -- `words::put_why` meets its contract: an arm each.
 use Rattle.reasons.specs.declared.fault.Why.the-variants.{Good, Bad}
 use Rattle.reasons.specs.Words.{whyText, fed}
-use Rattle.rules.proofs.WorkedText.{bytesOf}
 use Rattle.reasons.proofs.PutLaws.{put-at}
 use borrow.Author.Needs.{needs}
 use Rattle.reasons.proofs.words.put_why.Statement.{statement}
@@ -23,7 +22,7 @@ put-fault-requires : tie.Need-put-fault-requires
 put-fault-requires c κs = search needs
 
 returns : tie.Need-returns
-unfolding whyText bytesOf
+unfolding whyText
 returns c = put-at (λ why. fed (whyText why)) _ Good _ _ _ _ (c .before .before .before .enum-told .given .1) (c .put-text .ensures)
 
 returns-2 : tie.Need-returns-2

@@ -1,5 +1,7 @@
 -- `session::reply::put_text` meets its contract: a case of the reply each.
 use borrow.Author.Needs.{needs}
+use Rattle.rules.specs.Session.{textOf}
+use Rattle.text.specs.Printed.{statusText, answerText}
 use Rattle.session.specs.Replies.{replyText}
 use Rattle.session.proofs.ReplyLaws.{reply-as}
 use Rattle.session.proofs.reply.put_text.Statement.{statement}
@@ -24,15 +26,15 @@ put-answer-requires : tie.Need-put-answer-requires
 put-answer-requires c κs = search needs
 
 returns : tie.Need-returns
-unfolding replyText
+unfolding replyText textOf statusText answerText
 returns c = reply-as _ _ _ _ _ (c .before .before .enum-told .given .1) (c .put-bad .ensures)
 
 returns-2 : tie.Need-returns-2
-unfolding replyText
+unfolding replyText textOf statusText answerText
 returns-2 c = reply-as _ _ _ _ _ (c .before .before .before .reply .given .1) (c .put-status .ensures)
 
 returns-3 : tie.Need-returns-3
-unfolding replyText
+unfolding replyText textOf statusText answerText
 returns-3 c = reply-as _ _ _ _ _ (c .before .before .before .reply2 .given .1) (c .put-answer .ensures)
 
 pub put-text-spec : {M : Type 1} → statement M
