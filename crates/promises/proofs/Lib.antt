@@ -4,6 +4,7 @@ pub mod AloneSteps
 pub mod Determined
 pub mod DeterminedCalls
 pub mod DeterminedInside
+pub mod DeterminedText
 pub mod Elsewhere
 pub mod Examples
 pub mod Isolation
