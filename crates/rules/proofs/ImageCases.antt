@@ -92,6 +92,8 @@ right =
     -- the limits: four guests; all that one guest can have
     ∷ "image 14 120 0000000 0001 0000 120 0000000 0001 0001 120 0000000 0001 0002 120 0000000 0001 0003"
     ∷ sixteen
+    -- devhandle 0 and devino 0 are a source like another, though an absent one has them too
+    ∷ "image 12 120 0000000 0001 0000 121 0000000 0001 0001 0000000 00 0"
     -- the last real page and the last host page
     ∷ "image 11 120 fffffff 0001 0000"
     ∷ "image 11 120 0000000 0001 ffff"
