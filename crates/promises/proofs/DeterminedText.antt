@@ -27,10 +27,10 @@ same-text-determined κs a r s ws vs p q = p ∙ sym q
 pub why-bad-determined : (κs : _) (a : _) (r s : _) (ws vs : _) → why-bad-reads.Post κs a r ws → why-bad-reads.Post κs a s vs → r ≡ s
 why-bad-determined κs a r s ws vs p q = p ∙ sym q
 
-pub put-meaning-determined : (κs : _) (a : _) (r s : _) (ws vs : _) → put-meaning-reads.Post κs a r ws → put-meaning-reads.Post κs a s vs → (r ≡ s) × (now (ws .0) ≡ now (vs .0))
+pub put-meaning-determined : (κs : _) (a : _) (r s : _) (ws vs : _) → put-meaning-reads.Post κs a r ws → put-meaning-reads.Post κs a s vs → (r ≡ s) × (now (ws .1 .0) ≡ now (vs .1 .0))
 put-meaning-determined κs a r s ws vs p q = (p .behind ∙ sym (q .behind), p .bytes ∙ sym (q .bytes))
 
-pub put-why-determined : (κs : _) (a : _) (r s : _) (ws vs : _) → put-why-reads.Post κs a r ws → put-why-reads.Post κs a s vs → (r ≡ s) × (now (ws .0) ≡ now (vs .0))
+pub put-why-determined : (κs : _) (a : _) (r s : _) (ws vs : _) → put-why-reads.Post κs a r ws → put-why-reads.Post κs a s vs → (r ≡ s) × (now (ws .1 .0) ≡ now (vs .1 .0))
 put-why-determined κs a r s ws vs p q = (p .behind ∙ sym (q .behind), p .bytes ∙ sym (q .bytes))
 
 pub put-reason-determined : (κs : _) (a : _) (r s : _) (ws vs : _) → put-reason-reads.Post κs a r ws → put-reason-reads.Post κs a s vs → (r ≡ s) × (now (ws .1 .1 .0) ≡ now (vs .1 .1 .0))
