@@ -8,31 +8,31 @@ use Rattle.rules.specs.Text.{bytesOf}
 use Rattle.rules.proofs.Changes.{Row, rows, differing, comparing, statistics, word}
 use Rattle.rules.proofs.Sessions.{Exchange, _prints_, _prints_setting_, empty, given, after, heard, Cases}
 
--- a guest of two cpus with two extents that touch: real pages 1 and 2 are host pages 1 and 0
+-- a guest of two cpus with two extents that touch: real pages 1 and 2 are host pages 0 and 1, and real page 3 is host page 2
 abbrev pub twoExtents : List String
 twoExtents =
-    "image 11 240 0000001 0001 0001 0000002 0001 0000 0" ∷ "call 0 0 ff 0 1 1 0" ∷ "call 0 0 ff 0 200 1 0" ∷ []
+    "image 11 240 0000001 0002 0000 0000003 0001 0002 0" ∷ "call 0 0 ff 0 1 1 0" ∷ "call 0 0 ff 0 200 1 0" ∷ []
 
 abbrev pub wordsAndPages : List Exchange
 wordsAndPages =
-    -- a store sets one word, big-endian, on host page h+i for real page r+i: the first and last of both pages
-    "store 0 2000 123456789abcdef" prints "0 0 0 0 0" setting (word 0x2000 0x0123_4567_89ab_cdef ∷ [])
-    ∷ "store 0 3ff8 22" prints "0 0 0 0 0" setting (word 0x3ff8 0x22 ∷ [])
-    ∷ "store 0 4000 33" prints "0 0 0 0 0" setting (word 0 0x33 ∷ [])
-    ∷ "store 0 5ff8 fedcba9876543210" prints "0 0 0 0 0" setting (word 0x1ff8 0xfedc_ba98_7654_3210 ∷ [])
+    -- a store sets one word, big-endian, on host page h+i for real page r+i: the first and last of both extents
+    "store 0 2000 123456789abcdef" prints "0 0 0 0 0" setting (word 0 0x0123_4567_89ab_cdef ∷ [])
+    ∷ "store 0 5ff8 22" prints "0 0 0 0 0" setting (word 0x3ff8 0x22 ∷ [])
+    ∷ "store 0 6000 33" prints "0 0 0 0 0" setting (word 0x4000 0x33 ∷ [])
+    ∷ "store 0 7ff8 fedcba9876543210" prints "0 0 0 0 0" setting (word 0x5ff8 0xfedc_ba98_7654_3210 ∷ [])
     -- "Load returns its word as value 1."
     ∷ "load 0 2000" prints "0 123456789abcdef 0 0 0"
-    ∷ "load 0 4000" prints "0 33 0 0 0"
-    ∷ "load 0 5ff8" prints "0 fedcba9876543210 0 0 0"
+    ∷ "load 0 6000" prints "0 33 0 0 0"
+    ∷ "load 0 7ff8" prints "0 fedcba9876543210 0 0 0"
     -- "not on 8 EBADALIGN", before the range; "not valid ENORADDR"
     ∷ "load 0 2004" prints "8 0 0 0 0"
-    ∷ "load 0 6004" prints "8 0 0 0 0"
-    ∷ "load 0 6000" prints "2 0 0 0 0"
+    ∷ "load 0 8004" prints "8 0 0 0 0"
+    ∷ "load 0 8000" prints "2 0 0 0 0"
     ∷ "load 0 1ff8" prints "2 0 0 0 0"
     ∷ "load 0 fffffffffffffff8" prints "2 0 0 0 0"
     ∷ "store 0 2004 1" prints "8 0 0 0 0"
-    ∷ "store 0 6001 1" prints "8 0 0 0 0"
-    ∷ "store 0 6000 1" prints "2 0 0 0 0"
+    ∷ "store 0 8001 1" prints "8 0 0 0 0"
+    ∷ "store 0 8000 1" prints "2 0 0 0 0"
     ∷ "store 0 1ff8 1" prints "2 0 0 0 0"
     -- 0x31 and 0x32: "length 0 EINVAL", before the address
     ∷ "call 0 0 80 31 2000 0" prints "6 0 0 0 0"
@@ -42,11 +42,11 @@ wordsAndPages =
     ∷ "call 0 0 80 31 2000 1000" prints "8 0 0 0 0"
     ∷ "call 0 0 80 32 3000 2000" prints "8 0 0 0 0"
     ∷ "call 0 0 80 32 2000 2040" prints "8 0 0 0 0"
-    ∷ "call 0 0 80 32 6040 2000" prints "8 0 0 0 0"
+    ∷ "call 0 0 80 32 8040 2000" prints "8 0 0 0 0"
     -- "whole range not valid ENORADDR": two extents are not one, and a range may not pass 2^64
-    ∷ "call 0 0 80 31 2000 4000" prints "2 0 0 0 0"
-    ∷ "call 0 0 80 32 2000 4000" prints "2 0 0 0 0"
-    ∷ "call 0 0 80 32 4000 4000" prints "2 0 0 0 0"
+    ∷ "call 0 0 80 31 2000 6000" prints "2 0 0 0 0"
+    ∷ "call 0 0 80 32 2000 6000" prints "2 0 0 0 0"
+    ∷ "call 0 0 80 32 6000 4000" prints "2 0 0 0 0"
     ∷ "call 0 0 80 31 ffffffffffffe000 8000" prints "2 0 0 0 0"
     -- 0x32 "returns length"
     ∷ "call 0 0 80 32 4000 2000" prints "0 2000 0 0 0"
@@ -69,8 +69,8 @@ statisticsCalls =
     ∷ "call 0 1 80 102 1fe0" prints "8 0 0 0 0" setting (statistics 0 1 0 ∷ [])
     ∷ "call 0 0 80 103" prints "0 0 0 0 0"
     -- "512 bytes not valid ENORADDR", and the same; the last that fits
-    ∷ "call 0 0 80 102 5e00" prints "0 0 0 0 0" setting (statistics 0 0 0x5e00 ∷ [])
-    ∷ "call 0 0 80 102 5e40" prints "2 0 0 0 0" setting (statistics 0 0 0 ∷ [])
+    ∷ "call 0 0 80 102 7e00" prints "0 0 0 0 0" setting (statistics 0 0 0x7e00 ∷ [])
+    ∷ "call 0 0 80 102 7e40" prints "2 0 0 0 0" setting (statistics 0 0 0 ∷ [])
     ∷ "call 0 0 80 102 2000" prints "0 0 0 0 0" setting (statistics 0 0 0x2000 ∷ [])
     ∷ "call 0 0 80 102 1fc0" prints "2 0 0 0 0" setting (statistics 0 0 0 ∷ [])
     -- "address 0, tried first, sets 0 and is accepted": here 0 is not valid
@@ -79,9 +79,9 @@ statisticsCalls =
     ∷ []
 
 pub record MemoryCases : Type 0 where
-  pub words-pages : Cases 16384 twoExtents wordsAndPages
-  pub scrub-leaves : scrubChanges (after (empty 16384) twoExtents) ≡ []
-  pub mmustat : Cases 16384 twoExtents statisticsCalls
+  pub words-pages : Cases 24576 twoExtents wordsAndPages
+  pub scrub-leaves : scrubChanges (after (empty 24576) twoExtents) ≡ []
+  pub mmustat : Cases 24576 twoExtents statisticsCalls
 
 pub memory-cases : MemoryCases
 unfolding computing comparing after heard
