@@ -20,7 +20,7 @@ use Rattle.rules.specs.Host.{longEnough, hostRule, hostEvent}
 use Rattle.rules.specs.Session.{output}
 use Rattle.memory.specs.Cells.{cell, owns}
 use Rattle.session.specs.Feeding.{atFirst}
-use Rattle.session.proofs.Whole.{inPieces, joinedUp, Roomy}
+use Rattle.session.specs.Pieces.{inPieces, joinedUp, Roomy}
 use Rattle.promises.specs.Words.{Passes, belongs, tablesAfter, ownEvents, ownAnswers, Unchanged, Untouched, SameReal, StatisticsCall, Clears, cleared, Excepted}
 use Rattle.promises.specs.Machine.{machineOf, guestAfter, answersAlone, machineAfter}
 
@@ -54,9 +54,9 @@ NobodysBytes =
 
 -- What a refusal leaves behind.
 
--- `refused-at-entry`: 101, 102, 103 of a guest that is not there, and 104 change nothing.
-abbrev pub RefusedAtEntry : Type 0
-RefusedAtEntry =
+-- `refused-at-the-door`: 101, 102, 103 of a guest that is not there, and 104 change nothing.
+abbrev pub RefusedAtTheDoor : Type 0
+RefusedAtTheDoor =
     (tables : Tables) (memory : List ℕ) (event : Event) (r : Refusal)
     → hostRule tables memory event ≡ refused r
     → Unchanged tables memory (hostEvent tables memory event)

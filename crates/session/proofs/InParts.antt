@@ -15,6 +15,7 @@ use Rattle.rules.specs.Session.{Printed, answered}
 use Rattle.session.specs.declared.feeder.Fed.{Fed}
 use Rattle.session.specs.declared.feeder.Feeder.{Feeder}
 use Rattle.session.specs.Feeding.{Progress, ended, pushed, next, fed, room, taken-up, feedOf, Feeds, unprinted, AllFed, lineLimit}
+use Rattle.session.specs.Pieces.{kept}
 
 -- A feeder that has printed something does what it would have done without.
 abbrev pub prefixed : List ℕ → Progress → Progress
@@ -59,9 +60,6 @@ pub fed-held : (bs : List ℕ) (p : Progress) → p .held ≤ lineLimit → fed 
 unfolding fed
 fed-held [] p h = h
 fed-held (b ∷ bs) p h = fed-held bs (next p b) (next-held p b h)
-
-abbrev pub kept : Progress → Feeder
-kept p = record { tables = p .session .tables; line = p .line; held = p .held }
 
 -- what is kept of a piece is what the next one starts from
 pub taken-again : (p : Progress) → p .held ≤ lineLimit → taken-up (kept p) (p .session .memory) ≡ unprinted p

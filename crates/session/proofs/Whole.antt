@@ -13,24 +13,8 @@ use Rattle.rules.specs.Text.{parse, lineFeed}
 use Rattle.rules.specs.Session.{Printed, begin, answered, linesFrom, printed, output}
 use Rattle.session.specs.declared.feeder.Feeder.{Feeder}
 use Rattle.session.specs.Feeding.{Progress, ended, pushed, next, fed, room, taken-up, feedOf, atFirst, ending, unprinted, lineLimit}
-use Rattle.session.proofs.InParts.{prefixed, fed-prefixed, fed-append, fed-held, kept, taken-again}
-
--- The program's way through its input: each piece is fed to what the one before left, and then the end.
-unfoldable pub inPieces : List ℕ → Feeder → List ℕ → List (List ℕ) → List ℕ
-inPieces out feeder memory [] = feedOf feeder memory (ending (feeder .held)) out .text
-inPieces out feeder memory (piece ∷ pieces) =
-    let p : Progress = feedOf feeder memory piece out in
-    p .text ++ inPieces out (kept p) (p .session .memory) pieces
-
--- the input that the pieces make
-unfoldable pub joinedUp : List (List ℕ) → List ℕ
-joinedUp [] = []
-joinedUp (piece ∷ pieces) = piece ++ joinedUp pieces
-
--- each has room for its answers
-unfoldable pub Roomy : List ℕ → List (List ℕ) → Type 0
-Roomy out [] = 96 ≤ length out
-Roomy out (piece ∷ pieces) = (96 * length piece ≤ length out) × Roomy out pieces
+use Rattle.session.specs.Pieces.{kept, inPieces, joinedUp, Roomy}
+use Rattle.session.proofs.InParts.{prefixed, fed-prefixed, fed-append, fed-held, taken-again}
 
 -- what is cut off a line that is too long is not missed
 cut : (line : List ℕ) → parse (take lineLimit line) ≡ parse line

@@ -1,3 +1,4 @@
 pub mod Asking
 pub mod Feeding
+pub mod Pieces
 pub mod Replies
