@@ -1,6 +1,6 @@
 -- "Which calls exist": cases of trap and function numbers, of groups that are not negotiated, and of set and get version.
 use mathlib.Core.Path.{_≡_, refl}
-use mathlib.Core.List.{List, [], _∷_}
+use mathlib.Core.List.{List, [], _∷_, _++_}
 use Prim.Native.String.{String}
 use Rattle.rules.proofs.Computing.{computing}
 use Rattle.rules.specs.Text.{bytesOf}
@@ -13,9 +13,9 @@ abbrev pub twoGuests : List String
 twoGuests =
     "image 12 122 0000000 0001 0000 0000100 0b 0000100 0c 122 0000000 0001 0001 0000200 0b 0000200 0c" ∷ []
 
--- "a group not negotiated": EBADTRAP, whatever the arguments
-abbrev pub notNegotiated : List Exchange
-notNegotiated =
+-- "a group not negotiated": EBADTRAP, whatever the arguments; group 1, ..
+abbrev pub coreRefused : List Exchange
+coreRefused =
     "call 0 0 80 14 3c 0 2" prints "7 0 0 0 0"
     ∷ "call 0 0 80 15 3c" prints "7 0 0 0 0"
     ∷ "call 0 0 80 16" prints "7 0 0 0 0"
@@ -24,13 +24,30 @@ notNegotiated =
     ∷ "call 0 0 80 31 0 2000" prints "7 0 0 0 0"
     ∷ "call 0 0 80 32 0 2000" prints "7 0 0 0 0"
     ∷ "call 0 0 80 42 0 0 0" prints "7 0 0 0 0"
-    ∷ "call 0 0 80 a0 100 5" prints "7 0 0 0 0"
+    ∷ []
+
+-- .. group 2, ..
+abbrev pub interruptRefused : List Exchange
+interruptRefused =
+    "call 0 0 80 a0 100 5" prints "7 0 0 0 0"
     ∷ "call 0 0 80 a6 0 0" prints "7 0 0 0 0"
     ∷ "call 0 0 80 a7 100 5" prints "7 0 0 0 0"
     ∷ "call 0 0 80 ae 100 5 0" prints "7 0 0 0 0"
-    ∷ "call 0 0 80 102 0" prints "7 0 0 0 0"
-    ∷ "call 0 0 80 103" prints "7 0 0 0 0"
     ∷ []
+
+-- .. and group 0x200
+abbrev pub statisticsRefused : List Exchange
+statisticsRefused = "call 0 0 80 102 0" prints "7 0 0 0 0" ∷ "call 0 0 80 103" prints "7 0 0 0 0" ∷ []
+
+-- the same where every other group is negotiated
+abbrev pub allButCore : List String
+allButCore = twoGuests ++ ("call 0 0 ff 0 0 1" ∷ "call 0 0 ff 0 2 2" ∷ "call 0 0 ff 0 200 1" ∷ [])
+
+abbrev pub allButInterrupt : List String
+allButInterrupt = twoGuests ++ ("call 0 0 ff 0 0 1" ∷ "call 0 0 ff 0 1 1" ∷ "call 0 0 ff 0 200 1" ∷ [])
+
+abbrev pub allButStatistics : List String
+allButStatistics = twoGuests ++ ("call 0 0 ff 0 0 1" ∷ "call 0 0 ff 0 1 1" ∷ "call 0 0 ff 0 2 2" ∷ [])
 
 abbrev pub versionCalls : List Exchange
 versionCalls =
@@ -112,9 +129,18 @@ versionCalls =
     ∷ []
 
 pub record CallCases : Type 0 where
-  pub not-negotiated : Cases 16384 twoGuests notNegotiated
+  pub none-negotiated : Cases 16384 twoGuests (coreRefused ++ interruptRefused ++ statisticsRefused)
+  pub without-core : Cases 16384 allButCore coreRefused
+  pub without-interrupt : Cases 16384 allButInterrupt interruptRefused
+  pub without-statistics : Cases 16384 allButStatistics statisticsRefused
   pub version-calls : Cases 16384 twoGuests versionCalls
 
 pub call-cases : CallCases
 unfolding computing comparing after heard
-call-cases = record { not-negotiated = refl; version-calls = refl }
+call-cases = record {
+  none-negotiated = refl;
+  without-core = refl;
+  without-interrupt = refl;
+  without-statistics = refl;
+  version-calls = refl;
+}

@@ -98,14 +98,14 @@ byName =
 -- "raise", under 1.0: the entry's word 0 is the sysino. The ring that cpu 1 gets has words from before in its first entry.
 abbrev pub raisesAtOne : List Exchange
 raisesAtOne =
-    -- "Value 1 is the state after": disabled, target unset, and no ring
+    -- "Value 1 is the state after": disabled; target unset, though cpu 0 has a ring; and no ring
     "raise 100 6" prints "0 1 0 0 0" setting (source 0 1 0 1 Target.Unset 0 ∷ [])
     ∷ "call 0 0 80 a2 1 1" prints "0 0 0 0 0" setting (source 0 1 1 1 Target.Unset 0 ∷ [])
+    ∷ "call 0 0 80 14 3d 180 2" prints "0 0 0 0 0" setting (ring 0 0 0x3d 0x180 0x80 0 0 ∷ [])
     ∷ "raise 100 6" prints "0 1 0 0 0"
     ∷ "call 0 0 80 a6 1 1" prints "0 0 0 0 0" setting (source 0 1 1 1 (Target.Cpu 1) 0 ∷ [])
     -- a 0x3c ring is no 0x3d ring, nor is cpu 0's cpu 1's
     ∷ "call 0 1 80 14 3c 100 2" prints "0 0 0 0 0" setting (ring 0 1 0x3c 0x100 0x80 0 0 ∷ [])
-    ∷ "call 0 0 80 14 3d 180 2" prints "0 0 0 0 0" setting (ring 0 0 0x3d 0x180 0x80 0 0 ∷ [])
     ∷ "raise 100 6" prints "0 1 0 0 0"
     -- "if enabled, target set and its 0x3d ring has room, an entry is written at its tail, which moves on (..; seven zero words)
     -- and the state is delivered"
