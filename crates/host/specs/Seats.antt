@@ -1,4 +1,4 @@
--- "Before anything", in the code's two steps: the entry, which looks at tables and memory alone, and the guest that answers.
+-- "Before anything", in the code's two steps: the door, which looks at tables and memory alone, and the guest that answers.
 use Prim.Native.Nat.{ℕ}
 use lib.Dec.{ltb}
 use Rattle.rules.specs.declared.Event.{Event}
@@ -10,10 +10,10 @@ use Rattle.rules.specs.Tables.{keepRules}
 use Rattle.rules.specs.Host.{ownerOf, longEnough}
 use Rattle.records.specs.declared.Verdict.{Verdict}
 use Rattle.records.specs.declared.Verdict.the-variants.{Right, Refused}
-use Rattle.host.specs.declared.entry.Seat.{Seat}
+use Rattle.host.specs.declared.door.Seat.{Seat}
 
-unfoldable pub entryOf : Tables → ℕ → Verdict
-entryOf tables n =
+unfoldable pub doorOf : Tables → ℕ → Verdict
+doorOf tables n =
     if keepRules tables then if longEnough tables n then Right else Refused ShortMemory else Refused BadTables
 
 unfoldable pub seatFor : ℕ → Owner → Seat

@@ -1,12 +1,12 @@
 // The host's rule: what every event gives, for tables and memory of any content. It goes in three steps, which a session that
-// keeps its tables takes one by one: the entry (101, 102), the guest that answers (103, 104), and that guest's plant.
-mod entry;
+// keeps its tables takes one by one: the door (101, 102), the guest that answers (103, 104), and that guest's plant.
+mod door;
 mod owner;
 mod put;
 
-pub use entry::Seat;
-pub use entry::entry_of;
-pub use entry::seat_of;
+pub use door::Seat;
+pub use door::door_of;
+pub use door::seat_of;
 use plants::plant_after;
 use put::with_plant;
 use rules::Answer;
@@ -35,8 +35,8 @@ fn refused(tables: Tables, refusal: Refusal) -> Settled
 pub fn event(tables: Tables, mem: &mut [u8], event: Event) -> Settled
     ensures { λ r. ⌜ Settles (hostEvent tables (now (mem .entry)) event) r (now (mem .exit)) ⌝ }
 {
-    let entry = entry_of(tables, mem.len());
-    match seat_of(tables, entry, event) {
+    let door = door_of(tables, mem.len());
+    match seat_of(tables, door, event) {
         Seat::Refused(r) => refused(tables, r),
         Seat::Guest(i) => {
             let guest = tables.guest[i];

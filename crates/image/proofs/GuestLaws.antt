@@ -40,7 +40,7 @@ module _ (s : List ℕ) (at cpus extents sources end : ℕ) (p : end ≡ at + ex
       → record {
         verdict = Verdict.Granted;
         guest = record {
-          extents = record { count = extents; list = x };
+          extents = record { extents = extents; extent = x };
           plant = record { versions = v; cpus = cpus; cpu = c; sources = sources; source = y };
         };
       } ≡ guestAs (readLists s at cpus extents sources)
@@ -108,13 +108,13 @@ listed : (t : Bool) (g h : Guest) → (t or-refuse ImageShort then granted h) �
 listed true g h e = cc
 listed false g h e = cc
 
-lists-counts : (s : List ℕ) (at x y z : ℕ) (g : Guest) → readLists s at x y z ≡ granted g → (g .extents .count ≡ y) × (g .plant .sources ≡ z)
+lists-counts : (s : List ℕ) (at x y z : ℕ) (g : Guest) → readLists s at x y z ≡ granted g → (g .extents .extents ≡ y) × (g .plant .sources ≡ z)
 unfolding readLists
 lists-counts s at x y z g e =
     let w = listed (reaches s (at + extentBits * y + sourceBits * z)) g _ e in
-    (sym (ap (λ (h : Guest). h .extents .count) w), sym (ap (λ (h : Guest). h .plant .sources) w))
+    (sym (ap (λ (h : Guest). h .extents .extents) w), sym (ap (λ (h : Guest). h .plant .sources) w))
 
-guest-small : (s : List ℕ) (at : ℕ) (g : Guest) → readGuest s at ≡ granted g → (g .extents .count ≤ extentLimit) × (g .plant .sources ≤ sourceLimit)
+guest-small : (s : List ℕ) (at : ℕ) (g : Guest) → readGuest s at ≡ granted g → (g .extents .extents ≤ extentLimit) × (g .plant .sources ≤ sourceLimit)
 unfolding readGuest
 guest-small s at g e =
     let u = grants-tells (cpusRead s at) _ g e in

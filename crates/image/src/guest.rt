@@ -173,8 +173,8 @@ fn read_lists(s: &[u8], at: u64, cpus: u8, extents: u8, sources: u8) -> GuestRea
         verdict: Verdict::Granted,
         guest: Guest {
             extents: Extents {
-                count: extents,
-                list,
+                extents,
+                extent: list,
             },
             plant: Plant {
                 versions: blank::versions(),

@@ -70,7 +70,7 @@ fn read_fields(s: &[u8]) -> Read
             return read_refused(why);
         }
         let g = next.guest;
-        at = guest::behind(at, g.extents.count, g.plant.sources);
+        at = guest::behind(at, g.extents.extents, g.plant.sources);
         guest[i as usize] = g;
         i += 1;
     }

@@ -90,19 +90,19 @@ fill-past size blank f (suc n) i h = getD-set-other (filled size blank f n) n i 
 pub record Fresh (g : Guest) : Type 0 where
   pub cpus-least : 1 ≤ g .plant .cpus
   pub cpus-most : g .plant .cpus ≤ cpuLimit
-  pub extents-least : 1 ≤ g .extents .count
-  pub extents-most : g .extents .count ≤ extentLimit
+  pub extents-least : 1 ≤ g .extents .extents
+  pub extents-most : g .extents .extents ≤ extentLimit
   pub sources-most : g .plant .sources ≤ sourceLimit
   pub versions : g .plant .versions ≡ noVersions
   pub cpu : g .plant .cpu ≡ replicate cpuLimit blankCpu
-  pub extent-past : (i : ℕ) → g .extents .count ≤ i → extentAt (g .extents) i ≡ blankExtent
+  pub extent-past : (i : ℕ) → g .extents .extents ≤ i → extentAt (g .extents) i ≡ blankExtent
   pub source-read : (i : ℕ) → i < g .plant .sources → (bytes : List ℕ) × (at : ℕ) × (sourceAt (g .plant) i ≡ readSource bytes at)
   pub source-past : (i : ℕ) → g .plant .sources ≤ i → sourceAt (g .plant) i ≡ blankSource
 
 module _ (bytes : List ℕ) (at cpus extents sources : ℕ) (c0 : 1 ≤ cpus) (c1 : cpus ≤ cpuLimit) (e0 : 1 ≤ extents) (e1 : extents ≤ extentLimit) (s1 : sources ≤ sourceLimit) where
   abbrev lists : Guest
   lists = record {
-    extents = record { count = extents; list = filled extentLimit blankExtent (λ i. readExtent bytes (at + extentBits * i)) extents };
+    extents = record { extents = extents; extent = filled extentLimit blankExtent (λ i. readExtent bytes (at + extentBits * i)) extents };
     plant = record {
       versions = noVersions;
       cpus = cpus;
@@ -203,17 +203,17 @@ module _ (v : ℕ → ℕ → Bool) (g : Guest) (f : Fresh g) where
 fresh-extents : (g : Guest) → Fresh g → extentsRight (g .extents) ≡ true → ascend (g .extents) ≡ true → extentsKeep (g .extents) ≡ true
 unfolding extentsKeep extentsRight
 fresh-extents g f r a =
-    rw (le-leb 1 (g .extents .count) (f .extents-least), a, places)
+    rw (le-leb 1 (g .extents .extents) (f .extents-least), a, places)
   where
-    places : listRight extentLimit (g .extents .count) (λ i. extentRight (extentAt (g .extents) i)) (λ i. extentBlank (extentAt (g .extents) i)) ≡ true
+    places : listRight extentLimit (g .extents .extents) (λ i. extentRight (extentAt (g .extents) i)) (λ i. extentBlank (extentAt (g .extents) i)) ≡ true
     places =
-        list-right extentLimit (g .extents .count) (λ i. extentRight (extentAt (g .extents) i)) (λ i. extentBlank (extentAt (g .extents) i)) (f .extents-most)
-        (λ i h. all-at (λ i. extentRight (extentAt (g .extents) i)) (g .extents .count) i r h)
+        list-right extentLimit (g .extents .extents) (λ i. extentRight (extentAt (g .extents) i)) (λ i. extentBlank (extentAt (g .extents) i)) (f .extents-most)
+        (λ i h. all-at (λ i. extentRight (extentAt (g .extents) i)) (g .extents .extents) i r h)
         (λ i h l. ap extentBlank (f .extent-past i h) ∙ extent-blank)
 
 fresh-keeps : (g : Guest) → Fresh g → extentsRight (g .extents) ≡ true → ascend (g .extents) ≡ true → guestKeeps g ≡ true
 unfolding guestKeeps
-fresh-keeps g f r a = rw (fresh-extents g f r a) (fresh-plant (valid (take (g .extents .count) (g .extents .list))) g f)
+fresh-keeps g f r a = rw (fresh-extents g f r a) (fresh-plant (valid (take (g .extents .extents) (g .extents .extent))) g f)
 
 -- The guests that were read, and the places around them.
 

@@ -127,7 +127,7 @@ module _ (v : ℕ → ℕ → Bool) (cpu : Cpu) (e : cpuRight v cpu ≡ true) wh
   pub with-queue : (q : ℕ) (held : QueueRecord) → recordRight v held ≡ true → cpuRight v (cpuWithQueue cpu q held) ≡ true
   unfolding cpuRight
   with-queue q held r =
-      rw (all-of (λ j. recordRight v (queueAt (cpuWithQueue cpu q held) j)) queueLimit (λ j h. set-either (λ (x : Queue). recordRight v (x .held) ≡ true) (cpu .queues) q j (record { held = held }) blankQueue (λ z. r) (queue-right j h)))
+      rw (all-of (λ j. recordRight v (queueAt (cpuWithQueue cpu q held) j)) queueLimit (λ j h. set-either (λ (x : Queue). recordRight v (x .held) ≡ true) (cpu .queue) q j (record { held = held }) blankQueue (λ z. r) (queue-right j h)))
       lists-part
 
   pub with-ctx0 : (l : TsbList) → tsbsRight v l ≡ true → cpuRight v (cpuWithCtx0 cpu l) ≡ true

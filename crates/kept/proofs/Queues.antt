@@ -16,7 +16,7 @@ use Rattle.rules.specs.Kept.{cpuAt, queueAt, cpuWithQueue, withQueue, withHead}
 use Rattle.rules.specs.Real.{Sight, bytesFrom}
 use Rattle.rules.specs.Rulings.{Ruling, granted, Outcome, done, _or-refuse_then_, _grants_, if_then_else_}
 use Rattle.rules.specs.Queues.{isQueue, indexOf, newRing, putIn, put, forward, ringOf, cpu-qconf, write-head}
-use Rattle.rules.specs.Mondo.{entryAt, entries, sendOne, sendAll, sentAs, cpu-mondo-send}
+use Rattle.rules.specs.Mondo.{listedCpu, listedCpus, sendOne, sendAll, sentAs, cpu-mondo-send}
 use Rattle.rules.specs.Tables.{recordRight, ringRight, plantKeeps}
 use Rattle.rules.proofs.Scan.{all-at}
 use Rattle.rules.proofs.Tests.{and-left, and-right}
@@ -90,10 +90,10 @@ below-more : (n c : ℕ) (cs : List ℕ) → Below n cs → c < n → Below n (c
 below-more n c [] b h = (h, tt)
 below-more n c (x ∷ xs) b h = (b .0, below-more n c xs (b .1) h)
 
-entries-below : (byte : ℕ → ℕ) (list n k : ℕ) → ((i : ℕ) → i < k → entryAt byte list i < n) → Below n (entries byte list k)
-unfolding entries
-entries-below byte list n zero f = tt
-entries-below byte list n (suc k) f = below-more n (entryAt byte list k) (entries byte list k) (entries-below byte list n k (λ i h. f i (omega arith))) (f k (omega arith))
+listed-below : (byte : ℕ → ℕ) (list n k : ℕ) → ((i : ℕ) → i < k → listedCpu byte list i < n) → Below n (listedCpus byte list k)
+unfolding listedCpus
+listed-below byte list n zero f = tt
+listed-below byte list n (suc k) f = below-more n (listedCpu byte list k) (listedCpus byte list k) (listed-below byte list n k (λ i h. f i (omega arith))) (f k (omega arith))
 
 send-all : (v : ℕ → ℕ → Bool) (plant : Plant) → plantKeeps v plant ≡ true → (cpus packet : List ℕ) (mark : ℕ) → Below (plant .cpus) cpus → Kept v plant (sendAll plant cpus packet mark .plant)
 unfolding sendAll
@@ -107,9 +107,9 @@ pub mondo-fine : (sight : Sight) (plant : Plant) → plantKeeps (sight .valid) p
 unfolding cpu-mondo-send
 mondo-fine sight plant e cpu count list at =
     let v = sight .valid in
-    let last : Ruling Outcome = granted (sentAs (sendAll plant (entries (sight .byte) list count) (bytesFrom (sight .byte) at 64) list)) in
-    let cpus : Bool = allBelow count (λ i. ltb (entryAt (sight .byte) list i) (plant .cpus)) in
-    let caller : Bool = not (someBelow count (λ i. eqb (entryAt (sight .byte) list i) cpu)) in
+    let last : Ruling Outcome = granted (sentAs (sendAll plant (listedCpus (sight .byte) list count) (bytesFrom (sight .byte) at 64) list)) in
+    let cpus : Bool = allBelow count (λ i. ltb (listedCpu (sight .byte) list i) (plant .cpus)) in
+    let caller : Bool = not (someBelow count (λ i. eqb (listedCpu (sight .byte) list i) cpu)) in
     let ranges : Bool = sight .valid at 64 && sight .valid list (2 * count) in
     let aligned : Bool = eqb (at % 64) 0 && eqb (list % 2) 0 in
     fine-then v plant e (leb 1 count && leb count 64) EINVAL (aligned or-refuse EBADALIGN then ranges or-refuse ENORADDR then caller or-refuse EINVAL then cpus or-refuse ENOCPU then last) (λ _.
@@ -117,5 +117,5 @@ mondo-fine sight plant e cpu count list at =
     fine-then v plant e ranges ENORADDR (caller or-refuse EINVAL then cpus or-refuse ENOCPU then last) (λ _.
     fine-then v plant e caller EINVAL (cpus or-refuse ENOCPU then last) (λ _.
     fine-then v plant e cpus ENOCPU last (λ h.
-    send-all v plant e (entries (sight .byte) list count) (bytesFrom (sight .byte) at 64) list
-    (entries-below (sight .byte) list (plant .cpus) count (λ i l. ltb-true (entryAt (sight .byte) list i) (plant .cpus) (all-at (λ i. ltb (entryAt (sight .byte) list i) (plant .cpus)) count i h l))))))))
+    send-all v plant e (listedCpus (sight .byte) list count) (bytesFrom (sight .byte) at 64) list
+    (listed-below (sight .byte) list (plant .cpus) count (λ i l. ltb-true (listedCpu (sight .byte) list i) (plant .cpus) (all-at (λ i. ltb (listedCpu (sight .byte) list i) (plant .cpus)) count i h l))))))))

@@ -22,5 +22,5 @@ module _ (tables : Tables) (memory : List ℕ) (event : Event) (keep : keepRules
   unfolding hostEvent hostRule
   event-settled = rw (keep, long)
 
-  pub few : (g : ℕ) → g < tables .guests → guestAt tables g .extents .count ≤ extentLimit
+  pub few : (g : ℕ) → g < tables .guests → guestAt tables g .extents .extents ≤ extentLimit
   few g h = extents-few _ (extents-keep tables keep g h)

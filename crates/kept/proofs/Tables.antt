@@ -1,6 +1,6 @@
 -- Promise: the tables keep the rules. Whatever an event is, tables that keep the rules keep them afterwards, so that a host
 -- that loaded its image answers no event with 101.
-use mathlib.Core.Path.{_≡_, refl, ap, fun-ext}
+use mathlib.Core.Path.{_≡_, refl, ap}
 use mathlib.Core.Bool.{Bool, true, false}
 use mathlib.Core.List.{List}
 use Prim.Native.Nat.{ℕ, _/_, _%_, _*_, _<_}
@@ -15,21 +15,18 @@ use Rattle.rules.specs.declared.Plant.{Plant}
 use Rattle.rules.specs.declared.Refusal.the-variants.{ShortMemory}
 use Rattle.rules.specs.declared.Tables.{Tables}
 use Rattle.rules.specs.Limits.{guestLimit, extentLimit, sourceLimit}
-use Rattle.rules.specs.Scan.{someBelow}
 use Rattle.rules.specs.Kept.{guestAt, plantAt, extentAt, sourceAt, extentsOf, hollowGuest, withPlant}
 use Rattle.rules.specs.Real.{valid, sightOf}
 use Rattle.rules.specs.Rulings.{Ruling, outcomeOf, _or-refuse_then_}
 use Rattle.rules.specs.Image.{runAt, pagesShared, twins, sourceTwice}
 use Rattle.rules.specs.Tables.{listRight, guestBlank, guestKeeps, keepRules}
 use Rattle.rules.specs.Host.{HostOutcome, plantRule, ownerOf, longEnough, answeredBy, hostRule, hostOutcomeOf, hostEvent}
+use Rattle.rules.proofs.Scan.{some-same}
 use Rattle.rules.proofs.Tests.{and-left, and-right}
 use Rattle.tables.proofs.SoundTables.{extents-keep, plant-keeps}
 use Rattle.kept.proofs.Lists.{set-either, list-replaced}
 use Rattle.kept.proofs.Plants.{Kept}
 use Rattle.kept.proofs.Events.{plant-fine}
-
-some-same : (n : ℕ) (p q : ℕ → Bool) → ((i : ℕ) → p i ≡ q i) → someBelow n p ≡ someBelow n q
-some-same n p q f = ap (someBelow n) (fun-ext f)
 
 -- a guest's plant put back
 module _ (tables : Tables) (keep : keepRules tables ≡ true) (g : ℕ) (there : g < tables .guests) (after : Plant) (k : Kept (valid (extentsOf tables g)) (plantAt tables g) after) where
@@ -61,14 +58,13 @@ module _ (tables : Tables) (keep : keepRules tables ≡ true) (g : ℕ) (there :
 
   pages-same : pagesShared next ≡ pagesShared tables
   unfolding pagesShared
-  pages-same = some-same (guestLimit * extentLimit) _ _ (λ j. some-same j _ _ (λ i. rw (run-same i, run-same j)))
+  pages-same = some-same _ _ (guestLimit * extentLimit) (λ j _. some-same _ _ j (λ i _. rw (run-same i, run-same j)))
 
   twins-same : (i j : ℕ) → twins next i j ≡ twins tables i j
   unfolding twins
   twins-same i j =
       rw (
         sources-same (i / sourceLimit),
-        sources-same (j / sourceLimit),
         handle-same (i / sourceLimit) (i % sourceLimit),
         handle-same (j / sourceLimit) (j % sourceLimit),
         devino-same (i / sourceLimit) (i % sourceLimit),
@@ -77,7 +73,7 @@ module _ (tables : Tables) (keep : keepRules tables ≡ true) (g : ℕ) (there :
 
   twice-same : sourceTwice next ≡ sourceTwice tables
   unfolding sourceTwice
-  twice-same = some-same (guestLimit * sourceLimit) _ _ (λ j. some-same j _ _ (λ i. twins-same i j))
+  twice-same = some-same _ _ (guestLimit * sourceLimit) (λ j _. rw (sources-same (j / sourceLimit), some-same _ (λ i. twins tables i j) j (λ i _. twins-same i j)))
 
   put-keeps : guestKeeps put ≡ true
   unfolding guestKeeps

@@ -93,7 +93,7 @@ unfolding newTsbs tsbsRight
 new-tsbs-right sight ntsb pointer l e = go (eqb ntsb 0) e
   where
     listed : Ruling TsbList
-    listed = descriptors sight pointer ntsb grants λ list. granted (record { count = ntsb; list = list })
+    listed = descriptors sight pointer ntsb grants λ list. granted (record { tsbs = ntsb; tsb = list })
 
     ranged : Ruling TsbList
     ranged = sight .valid pointer (32 * ntsb) or-refuse ENORADDR then listed
@@ -106,9 +106,9 @@ new-tsbs-right sight ntsb pointer l e = go (eqb ntsb 0) e
     go false q =
         let few : ntsb ≤ tsbLimit = leb-true ntsb tsbLimit (then-tells (leb ntsb tsbLimit) EINVAL aligned l q) in
         let p : listed ≡ granted l = then-rest (sight .valid pointer (32 * ntsb)) ENORADDR listed l (then-rest (eqb (pointer % 8) 0) EBADALIGN ranged l (then-rest (leb ntsb tsbLimit) EINVAL aligned l q)) in
-        let d = grants-tells (descriptors sight pointer ntsb) (λ list. granted (record { count = ntsb; list = list })) l p in
+        let d = grants-tells (descriptors sight pointer ntsb) (λ list. granted (record { tsbs = ntsb; tsb = list })) l p in
         let f : Filled (sight .valid) (d .0) ntsb = descriptors-filled sight pointer ntsb (d .0) few (d .1 .0) in
-        rw (← granted-same (record { count = ntsb; list = d .0 }) l (d .1 .1))
+        rw (← granted-same (record { tsbs = ntsb; tsb = d .0 }) l (d .1 .1))
         (list-right tsbLimit ntsb (λ i. accepts (judgedTsb (sight .valid) (getD (d .0) i blankTsb))) (λ i. tsbBlank (getD (d .0) i blankTsb)) few (f .there) (λ i h m. f .past i h))
 
 module _ (sight : Sight) (plant : Plant) (e : plantKeeps (sight .valid) plant ≡ true) (cpu : ℕ) (there : cpu < plant .cpus) where

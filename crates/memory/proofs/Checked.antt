@@ -59,16 +59,16 @@ distinct-of (x ∷ xs) f =
 -- The extents that are there.
 
 module _ (e : Extents) (i : ℕ) (h : i < length (present e)) where
-  there : i < e .count
-  there = omega (arith, length-take (e .count) (e .list))
+  there : i < e .extents
+  there = omega (arith, length-take (e .extents) (e .extent))
 
   at-there : at (present e) i ≡ extentAt e i
-  at-there = getD-take (e .count) (e .list) i blankExtent there
+  at-there = getD-take (e .extents) (e .extent) i blankExtent there
 
-ascend-at : (e : Extents) (i : ℕ) → ascend e ≡ true → suc i < e .count → extentAt e i .real + extentAt e i .count ≤ extentAt e (suc i) .real
+ascend-at : (e : Extents) (i : ℕ) → ascend e ≡ true → suc i < e .extents → extentAt e i .real + extentAt e i .count ≤ extentAt e (suc i) .real
 unfolding ascend
 ascend-at e i p h =
-    let q : (eqb (suc i) 0 || leb (extentAt e (suc i - 1) .real + extentAt e (suc i - 1) .count) (extentAt e (suc i) .real)) ≡ true = all-at _ (e .count) (suc i) p h in
+    let q : (eqb (suc i) 0 || leb (extentAt e (suc i - 1) .real + extentAt e (suc i - 1) .count) (extentAt e (suc i) .real)) ≡ true = all-at _ (e .extents) (suc i) p h in
     let s : suc i - 1 ≡ i = omega arith in
     leb-true _ _ (rw (ne-eqb (suc i) 0 (omega arith), s) at q)
 
@@ -105,7 +105,7 @@ module _ (tables : Tables) where
   share-swap x y = rw (max-comm (x .host) (y .host), min-comm (x .host + x .count) (y .host + y .count))
 
   -- What a guest's extents are, and those of two guests to each other.
-  module _ (g : ℕ) (hg : g < guestLimit) (few : guestAt tables g .extents .count ≤ extentLimit) where
+  module _ (g : ℕ) (hg : g < guestLimit) (few : guestAt tables g .extents .extents ≤ extentLimit) where
     pub guest-ready : (n : ℕ) → ascend (guestAt tables g .extents) ≡ true → longEnough tables n ≡ true → Ready (extentsOf tables g) n
     guest-ready n p q =
         let e = guestAt tables g .extents in
@@ -120,7 +120,7 @@ module _ (tables : Tables) where
         distinct-of (present e) (λ i j h l.
         rw (at-there e i (omega arith), at-there e j l) (apart-at g i g j p hg (omega (arith, there e j l)) (omega (arith, there e j l)) (omega arith)))
 
-  module _ (g f : ℕ) (hg : g < guestLimit) (hf : f < guestLimit) (few : guestAt tables g .extents .count ≤ extentLimit) (few′ : guestAt tables f .extents .count ≤ extentLimit) where
+  module _ (g f : ℕ) (hg : g < guestLimit) (hf : f < guestLimit) (few : guestAt tables g .extents .extents ≤ extentLimit) (few′ : guestAt tables f .extents .extents ≤ extentLimit) where
     pub guests-strangers : pagesShared tables ≡ false → (g ≡ f → ⊥) → Strangers (extentsOf tables g) (extentsOf tables f)
     guests-strangers p n =
         let e = guestAt tables g .extents in

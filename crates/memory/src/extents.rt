@@ -42,12 +42,12 @@ fn through(x: Extent, real: Real) -> Host
 
 // Where the range starts on the host, if it is valid.
 fn locate(e: Extents, real: Real, len: u64) -> Place
-    requires { ⌜ e .count ≤ extentLimit ⌝ }
+    requires { ⌜ e .extents ≤ extentLimit ⌝ }
     ensures { λ r. ⌜ r ≡ located (present e) (real .0) len ⌝ }
 {
     let base = real.0;
-    let count = e.count as usize;
-    let list = e.list;
+    let count = e.extents as usize;
+    let list = e.extent;
     let mut i = 0;
     while i < count {
         let x = list[i];
@@ -61,7 +61,7 @@ fn locate(e: Extents, real: Real, len: u64) -> Place
 
 // Whether the whole range lies in one of the guest's extents.
 pub fn range_valid(e: Extents, base: u64, len: u64) -> bool
-    requires { ⌜ e .count ≤ extentLimit ⌝ }
+    requires { ⌜ e .extents ≤ extentLimit ⌝ }
     ensures { λ r. ⌜ r ≡ valid (present e) base len ⌝ }
 {
     match locate(e, Real(base), len) {
@@ -72,7 +72,7 @@ pub fn range_valid(e: Extents, base: u64, len: u64) -> bool
 
 // Where a valid range starts on the host.
 pub(crate) fn start(e: Extents, real: Real, len: u64) -> Host
-    requires { ⌜ e .count ≤ extentLimit ⌝ }
+    requires { ⌜ e .extents ≤ extentLimit ⌝ }
     requires { ⌜ valid (present e) (real .0) len ≡ true ⌝ }
     ensures { λ r. ⌜ Place.At r ≡ located (present e) (real .0) len ⌝ }
 {

@@ -17,7 +17,7 @@ ghost use Rattle.memory.specs.Ready.{present, Ready};
 
 // The number that k bytes from a real address make.
 fn seen(e: Extents, mem: &[u8], real: Real, k: usize) -> u64
-    requires { ⌜ (e .count ≤ extentLimit) × (k ≤ 8) ⌝ }
+    requires { ⌜ (e .extents ≤ extentLimit) × (k ≤ 8) ⌝ }
     requires { ⌜ Ready (present e) (length (now mem)) ⌝ }
     requires { ⌜ valid (present e) (real .0) k ≡ true ⌝ }
     ensures { λ r. ⌜ (r ≡ numberOf (byteAt (present e) (now (mem .entry))) (real .0) k) × (r < 256 ^ k) ⌝ }
@@ -28,7 +28,7 @@ fn seen(e: Extents, mem: &[u8], real: Real, k: usize) -> u64
 }
 
 pub fn number2(e: Extents, mem: &[u8], real: Real) -> u16
-    requires { ⌜ e .count ≤ extentLimit ⌝ }
+    requires { ⌜ e .extents ≤ extentLimit ⌝ }
     requires { ⌜ Ready (present e) (length (now mem)) ⌝ }
     requires { ⌜ valid (present e) (real .0) 2 ≡ true ⌝ }
     ensures { λ r. ⌜ r ≡ numberOf (byteAt (present e) (now (mem .entry))) (real .0) 2 ⌝ }
@@ -37,7 +37,7 @@ pub fn number2(e: Extents, mem: &[u8], real: Real) -> u16
 }
 
 pub fn number4(e: Extents, mem: &[u8], real: Real) -> u32
-    requires { ⌜ e .count ≤ extentLimit ⌝ }
+    requires { ⌜ e .extents ≤ extentLimit ⌝ }
     requires { ⌜ Ready (present e) (length (now mem)) ⌝ }
     requires { ⌜ valid (present e) (real .0) 4 ≡ true ⌝ }
     ensures { λ r. ⌜ r ≡ numberOf (byteAt (present e) (now (mem .entry))) (real .0) 4 ⌝ }
@@ -46,7 +46,7 @@ pub fn number4(e: Extents, mem: &[u8], real: Real) -> u32
 }
 
 pub fn number8(e: Extents, mem: &[u8], real: Real) -> u64
-    requires { ⌜ e .count ≤ extentLimit ⌝ }
+    requires { ⌜ e .extents ≤ extentLimit ⌝ }
     requires { ⌜ Ready (present e) (length (now mem)) ⌝ }
     requires { ⌜ valid (present e) (real .0) 8 ≡ true ⌝ }
     ensures { λ r. ⌜ r ≡ numberOf (byteAt (present e) (now (mem .entry))) (real .0) 8 ⌝ }
@@ -56,7 +56,7 @@ pub fn number8(e: Extents, mem: &[u8], real: Real) -> u64
 
 // The 64 bytes from a real address.
 pub fn bytes64(e: Extents, mem: &[u8], real: Real) -> [u8; 64]
-    requires { ⌜ e .count ≤ extentLimit ⌝ }
+    requires { ⌜ e .extents ≤ extentLimit ⌝ }
     requires { ⌜ Ready (present e) (length (now mem)) ⌝ }
     requires { ⌜ valid (present e) (real .0) 64 ≡ true ⌝ }
     ensures { λ r. ⌜ r ≡ bytesFrom (byteAt (present e) (now (mem .entry))) (real .0) 64 ⌝ }
@@ -68,7 +68,7 @@ pub fn bytes64(e: Extents, mem: &[u8], real: Real) -> [u8; 64]
 
 // Writes src from a real address on.
 pub fn write_at(e: Extents, mem: &mut [u8], real: Real, src: &[u8])
-    requires { ⌜ e .count ≤ extentLimit ⌝ }
+    requires { ⌜ e .extents ≤ extentLimit ⌝ }
     requires { ⌜ Ready (present e) (length (now mem)) ⌝ }
     requires { ⌜ valid (present e) (real .0) (length (now src)) ≡ true ⌝ }
     ensures { λ _. ⌜ now (mem .exit) ≡ apply (present e) (now (mem .entry)) (one (real .0) (now (src .entry))) ⌝ }
@@ -80,7 +80,7 @@ pub fn write_at(e: Extents, mem: &mut [u8], real: Real, src: &[u8])
 
 // Zeroes n bytes from a real address on.
 pub fn zero_at(e: Extents, mem: &mut [u8], real: Real, n: usize)
-    requires { ⌜ e .count ≤ extentLimit ⌝ }
+    requires { ⌜ e .extents ≤ extentLimit ⌝ }
     requires { ⌜ Ready (present e) (length (now mem)) ⌝ }
     requires { ⌜ valid (present e) (real .0) n ≡ true ⌝ }
     ensures { λ _. ⌜ now (mem .exit) ≡ apply (present e) (now (mem .entry)) (one (real .0) (replicate n 0)) ⌝ }

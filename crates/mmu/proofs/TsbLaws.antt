@@ -77,7 +77,7 @@ right-told (Told r) e = let z : _≡_ {A = ℕ} 0 1 = cc in absurd (omega arith)
 
 -- the descriptors from the pointer on
 module _ (s : Sight) (pointer : ℕ) where
-  pub listed-none : descriptors s pointer 0 ≡ granted (blankTsbs .list)
+  pub listed-none : descriptors s pointer 0 ≡ granted (blankTsbs .tsb)
   unfolding descriptors
   listed-none = refl
 
@@ -107,11 +107,11 @@ module _ (s : Sight) (pointer : ℕ) where
         at : (x : Refusal) → u ≡ Told x → descriptors s pointer (suc i) ≡ refused x
         at x z = rw (e, ← p, told-refused (judgedTsb (s .valid) t) x (sym q ∙ z))
 
-        go : (y : Verdict) → u ≡ y → (descriptors s pointer n grants λ l. granted (record { count = n; list = l })) ≡ judged y (granted blankTsbs)
+        go : (y : Verdict) → u ≡ y → (descriptors s pointer n grants λ l. granted (record { tsbs = n; tsb = l })) ≡ judged y (granted blankTsbs)
         go Right z = let f : _≡_ {A = Bool} true false = ap isRight (sym z) ∙ sym o ∙ not-true b h in let g : _≡_ {A = ℕ} 0 1 = cc in absurd (omega arith)
         go (Told x) z = rw (refused-on x (suc i) n (at x z) l)
 
-  pub listed-all : (i n : ℕ) (list : List Tsb) → descriptors s pointer i ≡ granted list → i ≤ n → n ≤ i → listed s pointer n ≡ judged Right (granted (record { count = n; list = list }))
+  pub listed-all : (i n : ℕ) (list : List Tsb) → descriptors s pointer i ≡ granted list → i ≤ n → n ≤ i → listed s pointer n ≡ judged Right (granted (record { tsbs = n; tsb = list }))
   unfolding listed judged
   listed-all i n list e h l =
       let q : i ≡ n = omega arith in

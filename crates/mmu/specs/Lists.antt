@@ -17,7 +17,7 @@ use Rattle.plants.specs.Changes.{doneBy, changedBy}
 unfoldable pub listed : Sight → ℕ → ℕ → Ruling TsbList
 listed sight pointer ntsb =
     descriptors sight pointer ntsb grants λ list.
-    granted (record { count = ntsb; list = list })
+    granted (record { tsbs = ntsb; tsb = list })
 
 -- what the code gives back: the change with its list, or no change, where the list is refused
 unfoldable pub settledBy : Verdict → Change → TsbList → Done

@@ -10,14 +10,16 @@ use rules::Plant;
 ghost use mathlib.Core.Path.{_≡_};
 ghost use Prim.Native.Nat.{_≤_, _<_};
 ghost use Rattle.rules.specs.Limits.{cpuLimit, extentLimit};
+ghost use Rattle.rules.specs.Kept.{present};
+ghost use Rattle.rules.specs.Real.{valid};
 ghost use Rattle.rules.specs.Rulings.{outcomeOf};
 ghost use Rattle.rules.specs.Memory.{mmustat-conf, mmustat-info};
-ghost use Rattle.plants.specs.Done.{quietly, saying, validIn};
+ghost use Rattle.plants.specs.Done.{quietly, saying};
 
 // 0x102: the address is set, and the one before told. A refused address is not kept, and neither is the one before.
 pub fn mmustat_conf(extents: Extents, plant: Plant, cpu: usize, address: u64) -> Done
-    requires { ⌜ (extents .count ≤ extentLimit) × (cpu < cpuLimit) ⌝ }
-    ensures { λ r. ⌜ quietly plant r ≡ outcomeOf plant (mmustat-conf (validIn extents) plant cpu address) ⌝ }
+    requires { ⌜ (extents .extents ≤ extentLimit) × (cpu < cpuLimit) ⌝ }
+    ensures { λ r. ⌜ quietly plant r ≡ outcomeOf plant (mmustat-conf (valid (present extents)) plant cpu address) ⌝ }
 {
     let verdict = records::judge_statistics(extents, address);
     match verdict {

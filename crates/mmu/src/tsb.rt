@@ -35,7 +35,7 @@ pub struct NewTsbs {
 
 // The descriptor at a real address, all of it but the reserved word.
 fn descriptor_at(extents: Extents, mem: &[u8], real: Real) -> Tsb
-    requires { ⌜ extents .count ≤ extentLimit ⌝ }
+    requires { ⌜ extents .extents ≤ extentLimit ⌝ }
     requires { ⌜ Ready (present extents) (length (now mem)) ⌝ }
     requires { ⌜ valid (present extents) (real .0) 32 ≡ true ⌝ }
     ensures { λ r. ⌜ r ≡ descriptorAt (byteAt (present extents) (now (mem .entry))) (real .0) ⌝ }
@@ -63,13 +63,13 @@ fn no_tsbs(verdict: Verdict) -> NewTsbs
 
 // The descriptors from pointer on: the first bad one decides.
 fn read_tsbs(extents: Extents, mem: &[u8], count: u8, pointer: u64) -> NewTsbs
-    requires { ⌜ (extents .count ≤ extentLimit) × (count ≤ tsbLimit) ⌝ }
+    requires { ⌜ (extents .extents ≤ extentLimit) × (count ≤ tsbLimit) ⌝ }
     requires { ⌜ Ready (present extents) (length (now mem)) ⌝ }
     requires { ⌜ valid (present extents) pointer (32 * count) ≡ true ⌝ }
     ensures { λ r. ⌜ listed (sightOf (present extents) (now (mem .entry))) pointer count ≡ judged (r .verdict) (granted (r .tsbs)) ⌝ }
 {
     let none = blank::tsbs();
-    let mut list = none.list;
+    let mut list = none.tsb;
     let mut i = 0;
     while i < count {
         let at = pointer + 32 * (i as u64);
@@ -81,7 +81,10 @@ fn read_tsbs(extents: Extents, mem: &[u8], count: u8, pointer: u64) -> NewTsbs
         list[i as usize] = t;
         i += 1;
     }
-    let tsbs = TsbList { count, list };
+    let tsbs = TsbList {
+        tsbs: count,
+        tsb: list,
+    };
     NewTsbs {
         verdict: Verdict::Right,
         tsbs,
@@ -90,7 +93,7 @@ fn read_tsbs(extents: Extents, mem: &[u8], count: u8, pointer: u64) -> NewTsbs
 
 // The list that 0x20 and 0x21 set.
 fn new_tsbs(extents: Extents, mem: &[u8], ntsb: u64, pointer: u64) -> NewTsbs
-    requires { ⌜ extents .count ≤ extentLimit ⌝ }
+    requires { ⌜ extents .extents ≤ extentLimit ⌝ }
     requires { ⌜ Ready (present extents) (length (now mem)) ⌝ }
     ensures { λ r. ⌜ newTsbs (sightOf (present extents) (now (mem .entry))) ntsb pointer ≡ judged (r .verdict) (granted (r .tsbs)) ⌝ }
 {
@@ -126,7 +129,7 @@ fn settled(verdict: Verdict, change: Change, tsbs: TsbList) -> Done
 
 // What 0x20 and 0x21 share: a new list is read, and the change sets it. The plant's record is not read.
 fn set_tsbs(extents: Extents, mem: &[u8], ntsb: u64, pointer: u64, change: Change) -> Done
-    requires { ⌜ extents .count ≤ extentLimit ⌝ }
+    requires { ⌜ extents .extents ≤ extentLimit ⌝ }
     requires { ⌜ Ready (present extents) (length (now mem)) ⌝ }
     ensures { λ r. ⌜ ((plant : PlantRecord) →
         Follows extents plant (setTsbs (sightOf (present extents) (now (mem .entry))) plant ntsb pointer change)
@@ -140,7 +143,7 @@ fn set_tsbs(extents: Extents, mem: &[u8], ntsb: u64, pointer: u64, change: Chang
 
 // 0x20: the list for context 0, whatever the plant's record is.
 pub fn mmu_tsb_ctx0(extents: Extents, mem: &[u8], cpu: usize, ntsb: u64, pointer: u64) -> Done
-    requires { ⌜ extents .count ≤ extentLimit ⌝ }
+    requires { ⌜ extents .extents ≤ extentLimit ⌝ }
     requires { ⌜ Ready (present extents) (length (now mem)) ⌝ }
     requires { ⌜ cpu < cpuLimit ⌝ }
     ensures { λ r. ⌜ ((plant : PlantRecord) →
@@ -153,7 +156,7 @@ pub fn mmu_tsb_ctx0(extents: Extents, mem: &[u8], cpu: usize, ntsb: u64, pointer
 
 // 0x21: the list for the other contexts, whatever the plant's record is.
 pub fn mmu_tsb_ctxnon0(extents: Extents, mem: &[u8], cpu: usize, ntsb: u64, pointer: u64) -> Done
-    requires { ⌜ extents .count ≤ extentLimit ⌝ }
+    requires { ⌜ extents .extents ≤ extentLimit ⌝ }
     requires { ⌜ Ready (present extents) (length (now mem)) ⌝ }
     requires { ⌜ cpu < cpuLimit ⌝ }
     ensures { λ r. ⌜ ((plant : PlantRecord) →

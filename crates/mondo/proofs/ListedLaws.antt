@@ -1,4 +1,4 @@
--- 0x42 once its list is read: the entries that the code keeps are those of the rule, and each return is the rule's case.
+-- 0x42 once its list is read: the listed cpus that the code keeps are those of the rule, and each return is the rule's case.
 use mathlib.Core.Path.{_≡_, refl, sym, _∙_}
 use mathlib.Core.Bool.{Bool, true, false, _&&_, not}
 use mathlib.Core.List.{List, [], _∷_, _++_}
@@ -18,8 +18,8 @@ use Rattle.rules.specs.declared.Answer.the-variants.{Done, Refused}
 use Rattle.rules.specs.Scan.{someBelow, allBelow}
 use Rattle.rules.specs.Real.{valid, byteAt, sightOf, bytesFrom}
 use Rattle.rules.specs.Rulings.{Ruling, Outcome, done}
-use Rattle.rules.specs.Mondo.{entryAt, entries, sendAll, cpu-mondo-send}
-use Rattle.rules.proofs.Scan.{all-at}
+use Rattle.rules.specs.Mondo.{listedCpu, listedCpus, sendAll, cpu-mondo-send}
+use Rattle.rules.proofs.Scan.{some-same, all-same, all-at}
 use Rattle.rules.proofs.Tests.{and-left, and-right}
 use Rattle.memory.specs.Ready.{present}
 use Rattle.records.specs.declared.Verdict.{Verdict}
@@ -35,50 +35,39 @@ use Rattle.mondo.specs.Steps.{mondoRanges, mondoCpus, mondoSent, Sends, 
 use Rattle.plants.proofs.JudgedLaws.{judged-refused, judged-right, judged-told}
 use Rattle.plants.proofs.OutcomeLaws.{quiet-refused}
 
--- tests that say the same of each number below n
-some-same : (p q : ℕ → Bool) (n : ℕ) → ((i : ℕ) → i < n → p i ≡ q i) → someBelow n p ≡ someBelow n q
-unfolding someBelow
-some-same p q zero f = refl
-some-same p q (suc n) f = rw (some-same p q n (λ i h. f i (omega arith)), f n (omega arith))
-
-all-same : (p q : ℕ → Bool) (n : ℕ) → ((i : ℕ) → i < n → p i ≡ q i) → allBelow n p ≡ allBelow n q
-unfolding allBelow
-all-same p q zero f = refl
-all-same p q (suc n) f = rw (all-same p q n (λ i h. f i (omega arith)), f n (omega arith))
-
--- the entries of a list, one by one
+-- the cpus of a list, one by one
 module _ (byte : ℕ → ℕ) (list : ℕ) where
-  entries-length : (n : ℕ) → length (entries byte list n) ≡ n
-  unfolding entries
-  entries-length zero = refl
-  entries-length (suc n) = rw (length-append, entries-length n) (omega arith)
+  cpus-length : (n : ℕ) → length (listedCpus byte list n) ≡ n
+  unfolding listedCpus
+  cpus-length zero = refl
+  cpus-length (suc n) = rw (length-append, cpus-length n) (omega arith)
 
-  entries-at : (n i : ℕ) → i < n → getD (entries byte list n) i 0 ≡ entryAt byte list i
-  unfolding entries
-  entries-at zero i h = absurd (omega arith)
-  entries-at (suc n) i h =
+  cpus-at : (n i : ℕ) → i < n → getD (listedCpus byte list n) i 0 ≡ listedCpu byte list i
+  unfolding listedCpus
+  cpus-at zero i h = absurd (omega arith)
+  cpus-at (suc n) i h =
       let k : i ≤ n = omega arith in
       ⊎-elim
       (λ e.
-      let q : getD (entries byte list n ++ (entryAt byte list n ∷ [])) (length (entries byte list n) + 0) 0 ≡ entryAt byte list n = getD-append-add (entries byte list n) (entryAt byte list n ∷ []) 0 0 in
-      rw e (simp (add-zero, entries-length) at q))
-      (λ l. List·getD-append (entries byte list n) _ 0 i (rw entries-length l) ∙ entries-at n i l)
+      let q : getD (listedCpus byte list n ++ (listedCpu byte list n ∷ [])) (length (listedCpus byte list n) + 0) 0 ≡ listedCpu byte list n = getD-append-add (listedCpus byte list n) (listedCpu byte list n ∷ []) 0 0 in
+      rw e (simp (add-zero, cpus-length) at q))
+      (λ l. List·getD-append (listedCpus byte list n) _ 0 i (rw cpus-length l) ∙ cpus-at n i l)
       (eq-or-lt-of-le k)
 
-  -- the entries cs that were read
-  module _ (cs : List ℕ) (count : ℕ) (e : take count cs ≡ entries byte list count) where
-    read-at : (i : ℕ) → i < count → entryAt byte list i ≡ getD cs i 0
-    read-at i h = sym (sym (getD-take count cs i 0 h) ∙ rw e (entries-at count i h))
+  -- the listed cpus cs that were read
+  module _ (cs : List ℕ) (count : ℕ) (e : take count cs ≡ listedCpus byte list count) where
+    read-at : (i : ℕ) → i < count → listedCpu byte list i ≡ getD cs i 0
+    read-at i h = sym (sym (getD-take count cs i 0 h) ∙ rw e (cpus-at count i h))
 
-    cpus-same : (cpu cpus : ℕ) (rest : Ruling Outcome) → mondoCpus (entryAt byte list) count cpu cpus rest ≡ mondoCpus (λ i. getD cs i 0) count cpu cpus rest
+    cpus-same : (cpu cpus : ℕ) (rest : Ruling Outcome) → mondoCpus (listedCpu byte list) count cpu cpus rest ≡ mondoCpus (λ i. getD cs i 0) count cpu cpus rest
     unfolding mondoCpus
     cpus-same cpu cpus rest =
         rw (
-          some-same (λ i. eqb (entryAt byte list i) cpu) (λ i. eqb (getD cs i 0) cpu) count (λ i h. rw (read-at i h)),
-          all-same (λ i. ltb (entryAt byte list i) cpus) (λ i. ltb (getD cs i 0) cpus) count (λ i h. rw (read-at i h)),
+          some-same (λ i. eqb (listedCpu byte list i) cpu) (λ i. eqb (getD cs i 0) cpu) count (λ i h. rw (read-at i h)),
+          all-same (λ i. ltb (listedCpu byte list i) cpus) (λ i. ltb (getD cs i 0) cpus) count (λ i h. rw (read-at i h)),
         )
 
--- each entry is a cpuid if the entries are right
+-- each listed cpu is a cpuid if the list is right
 module _ (cs : List ℕ) (count cpu : ℕ) (plant : Plant) (t : Verdict) (f : (rest : Ruling Outcome) → mondoCpus (λ i. getD cs i 0) count cpu (plant .cpus) rest ≡ judged t rest) (e : t ≡ Right) where
   told : verdictOf (mondoCpus (λ i. getD cs i 0) count cpu (plant .cpus) (done plant)) ≡ Right
   told = judged-told (mondoCpus (λ i. getD cs i 0) count cpu (plant .cpus)) t f e _
@@ -91,11 +80,11 @@ module _ (cs : List ℕ) (count cpu : ℕ) (plant : Plant) (t : Verdict) (f : (r
   unfolding mondoCpus
   below-told = told-then _ _ _ (rw others-told at told)
 
-  pub entry-below : (i : ℕ) → i < count → getD cs i 0 < plant .cpus
-  entry-below i h = ltb-true _ _ (all-at _ count i below-told h)
+  pub listed-below : (i : ℕ) → i < count → getD cs i 0 < plant .cpus
+  listed-below i h = ltb-true _ _ (all-at _ count i below-told h)
 
 -- the returns once the list is read
-module _ (extents : Extents) (plant : Plant) (m cs : List ℕ) (cpu count list at : ℕ) (e : take count cs ≡ entries (byteAt (present extents) m) list count)
+module _ (extents : Extents) (plant : Plant) (m cs : List ℕ) (cpu count list at : ℕ) (e : take count cs ≡ listedCpus (byteAt (present extents) m) list count)
     (t : Verdict) (f : (rest : Ruling Outcome) → mondoCpus (λ i. getD cs i 0) count cpu (plant .cpus) rest ≡ judged t rest) where
   abbrev asked : Ruling Outcome → Ruling Outcome
   asked = mondoCpus (λ i. getD cs i 0) count cpu (plant .cpus)

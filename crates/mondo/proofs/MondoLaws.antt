@@ -18,7 +18,7 @@ use Rattle.rules.specs.Scan.{someBelow, allBelow}
 use Rattle.rules.specs.Real.{apply}
 use Rattle.rules.specs.Rulings.{Ruling, Outcome}
 use Rattle.rules.specs.Queues.{putIn, put}
-use Rattle.rules.specs.Mondo.{entryAt, entries, sendOne}
+use Rattle.rules.specs.Mondo.{listedCpu, listedCpus, sendOne}
 use Rattle.memory.specs.Cells.{one}
 use Rattle.memory.specs.Ready.{present}
 use Rattle.memory.proofs.Writes.{apply-append}
@@ -65,26 +65,26 @@ module _ (v : ℕ → ℕ → Bool) (count list at : ℕ) (rest : Ruling Outcome
         ranges-right f = rw (few, eq-eqb (at % 64) 0 k, eq-eqb (list % 2) 0 l, ← p, not-false t e, ← q, not-false s f)
 
 -- no entry read, and one more
-pub read-none : (byte : ℕ → ℕ) (list : ℕ) → [] ≡ entries byte list 0
-unfolding entries
+pub read-none : (byte : ℕ → ℕ) (list : ℕ) → [] ≡ listedCpus byte list 0
+unfolding listedCpus
 read-none byte list = refl
 
-pub read-more : (byte : ℕ → ℕ) (list i v : ℕ) (cs : List ℕ) → take i cs ≡ entries byte list i → i < length cs → v ≡ entryAt byte list i → take (i + 1) (set cs i v) ≡ entries byte list (i + 1)
-unfolding entries
+pub read-more : (byte : ℕ → ℕ) (list i v : ℕ) (cs : List ℕ) → take i cs ≡ listedCpus byte list i → i < length cs → v ≡ listedCpu byte list i → take (i + 1) (set cs i v) ≡ listedCpus byte list (i + 1)
+unfolding listedCpus
 read-more byte list i v cs e h p = rw (add-one, take-suc-set cs i v h, e, p)
 
--- what is asked of the entries
-module _ (entry : ℕ → ℕ) (count cpu cpus : ℕ) (t : Bool) (p : t ≡ someBelow count (λ i. eqb (entry i) cpu)) (rest : Ruling Outcome) where
-  pub cpus-caller : t ≡ true → mondoCpus entry count cpu cpus rest ≡ judged (Told EINVAL) rest
+-- what is asked of the listed cpus
+module _ (listed : ℕ → ℕ) (count cpu cpus : ℕ) (t : Bool) (p : t ≡ someBelow count (λ i. eqb (listed i) cpu)) (rest : Ruling Outcome) where
+  pub cpus-caller : t ≡ true → mondoCpus listed count cpu cpus rest ≡ judged (Told EINVAL) rest
   unfolding mondoCpus judged
   cpus-caller h = rw (← p, h)
 
-  module _ (h : t ≡ false) (s : Bool) (q : s ≡ allBelow count (λ i. ltb (entry i) cpus)) where
-    pub cpus-stranger : not s ≡ true → mondoCpus entry count cpu cpus rest ≡ judged (Told ENOCPU) rest
+  module _ (h : t ≡ false) (s : Bool) (q : s ≡ allBelow count (λ i. ltb (listed i) cpus)) where
+    pub cpus-stranger : not s ≡ true → mondoCpus listed count cpu cpus rest ≡ judged (Told ENOCPU) rest
     unfolding mondoCpus judged
     cpus-stranger e = rw (← p, h, ← q, not-true s e)
 
-    pub cpus-right : not s ≡ false → mondoCpus entry count cpu cpus rest ≡ judged Right rest
+    pub cpus-right : not s ≡ false → mondoCpus listed count cpu cpus rest ≡ judged Right rest
     unfolding mondoCpus judged
     cpus-right e = rw (← p, h, ← q, not-false s e)
 

@@ -38,11 +38,11 @@ module _ (cpu : Cpu) where
   unfolding cpuAtTail
   cpu-own =
       ap (cpuWithQueue cpu 0) (tail-own (queueAt cpu 0))
-      ∙ (λ i. record { queues = set-getD (cpu .queues) 0 blankQueue i; ctx0 = cpu .ctx0; ctxnon0 = cpu .ctxnon0; statistics = cpu .statistics })
+      ∙ (λ i. record { queue = set-getD (cpu .queue) 0 blankQueue i; ctx0 = cpu .ctx0; ctxnon0 = cpu .ctxnon0; statistics = cpu .statistics })
 
   cpu-read : (t : ℕ) → queueAt (cpuAtTail cpu t) 0 ≡ atTail (queueAt cpu 0) t
   unfolding cpuAtTail atTail
-  cpu-read t = go (cpu .queues)
+  cpu-read t = go (cpu .queue)
     where
       go : (l : List Queue) → getD (set l 0 (record { held = atTail (getD l 0 blankQueue .held) t })) 0 blankQueue .held ≡ atTail (getD l 0 blankQueue .held) t
       go [] = refl
@@ -50,7 +50,7 @@ module _ (cpu : Cpu) where
 
   cpu-store : (s t : ℕ) → cpuWithQueue (cpuAtTail cpu s) 0 (atTail (queueAt cpu 0) t) ≡ cpuAtTail cpu t
   unfolding cpuAtTail
-  cpu-store s t = λ i. record { queues = set-set (cpu .queues) 0 (record { held = atTail (queueAt cpu 0) s }) (record { held = atTail (queueAt cpu 0) t }) i; ctx0 = cpu .ctx0; ctxnon0 = cpu .ctxnon0; statistics = cpu .statistics }
+  cpu-store s t = λ i. record { queue = set-set (cpu .queue) 0 (record { held = atTail (queueAt cpu 0) s }) (record { held = atTail (queueAt cpu 0) t }) i; ctx0 = cpu .ctx0; ctxnon0 = cpu .ctxnon0; statistics = cpu .statistics }
 
 module _ (plant : Plant) (tails : List ℕ) where
   abbrev tailAt : List ℕ → ℕ → Cpu → Cpu

@@ -13,7 +13,7 @@ use Rattle.rules.specs.Scan.{someBelow, allBelow}
 use Rattle.rules.specs.Real.{Sight, bytesFrom, apply}
 use Rattle.rules.specs.Rulings.{Ruling, granted, Outcome, _or-refuse_then_}
 use Rattle.rules.specs.Queues.{PutIn, putIn}
-use Rattle.rules.specs.Mondo.{entryAt, entries, Sent, marked, sendAll, sentAs}
+use Rattle.rules.specs.Mondo.{listedCpu, listedCpus, Sent, marked, sendAll, sentAs}
 use Rattle.memory.specs.Ready.{present}
 use Rattle.plants.specs.declared.change.Change.{Change}
 use Rattle.plants.specs.declared.change.Done.{Done}
@@ -27,18 +27,18 @@ mondoRanges valid count list dataAt rest =
     (valid dataAt 64 && valid list (2 * count)) or-refuse ENORADDR then
     rest
 
--- what is asked of its entries
+-- what is asked of the listed cpus
 unfoldable pub mondoCpus : (ℕ → ℕ) → ℕ → ℕ → ℕ → Ruling Outcome → Ruling Outcome
-mondoCpus entry count cpu cpus rest =
-    not (someBelow count (λ i. eqb (entry i) cpu)) or-refuse EINVAL then
-    allBelow count (λ i. ltb (entry i) cpus) or-refuse ENOCPU then
+mondoCpus listed count cpu cpus rest =
+    not (someBelow count (λ i. eqb (listed i) cpu)) or-refuse EINVAL then
+    allBelow count (λ i. ltb (listed i) cpus) or-refuse ENOCPU then
     rest
 
 -- what follows the questions before the list is read
 unfoldable pub mondoSent : Sight → Plant → ℕ → ℕ → ℕ → ℕ → Ruling Outcome
 mondoSent sight plant cpu count list dataAt =
-    mondoCpus (entryAt (sight .byte) list) count cpu (plant .cpus)
-    (granted (sentAs (sendAll plant (entries (sight .byte) list count) (bytesFrom (sight .byte) dataAt 64) list)))
+    mondoCpus (listedCpu (sight .byte) list) count cpu (plant .cpus)
+    (granted (sentAs (sendAll plant (listedCpus (sight .byte) list count) (bytesFrom (sight .byte) dataAt 64) list)))
 
 -- the packet to one cpu's ring, and the mark in the list if it was put
 unfoldable pub sendIn : QueueRecord → List ℕ → ℕ → PutIn

@@ -23,7 +23,7 @@ ghost use Rattle.rules.specs.Limits.{cpuLimit, extentLimit};
 ghost use Rattle.rules.specs.Scan.{someBelow, allBelow};
 ghost use Rattle.rules.specs.Real.{valid, byteAt, sightOf};
 ghost use Rattle.rules.specs.Rulings.{Ruling, Outcome};
-ghost use Rattle.rules.specs.Mondo.{entries, sendAll, cpu-mondo-send};
+ghost use Rattle.rules.specs.Mondo.{listedCpus, sendAll, cpu-mondo-send};
 ghost use Rattle.memory.specs.Ready.{present, Ready};
 ghost use Rattle.records.specs.Sound.{Sound};
 ghost use Rattle.plants.specs.Changes.{withTails};
@@ -43,7 +43,7 @@ struct Sent {
 
 // What is asked before the list is read.
 fn judge_ranges(extents: Extents, count: u64, list: u64, data: u64) -> Verdict
-    requires { ⌜ extents .count ≤ extentLimit ⌝ }
+    requires { ⌜ extents .extents ≤ extentLimit ⌝ }
     ensures { λ r. ⌜ ((rest : Ruling Outcome) → mondoRanges (valid (present extents)) count list «data» rest ≡ judged r rest) ⌝ }
 {
     if count == 0 {
@@ -67,12 +67,12 @@ fn judge_ranges(extents: Extents, count: u64, list: u64, data: u64) -> Verdict
     Verdict::Right
 }
 
-// The entries of a list.
+// The cpus that a list names.
 fn read_list(extents: Extents, mem: &[u8], list: u64, count: usize) -> [u16; MONDOS]
-    requires { ⌜ (extents .count ≤ extentLimit) × (count ≤ 64) ⌝ }
+    requires { ⌜ (extents .extents ≤ extentLimit) × (count ≤ 64) ⌝ }
     requires { ⌜ Ready (present extents) (length (now mem)) ⌝ }
     requires { ⌜ valid (present extents) list (2 * count) ≡ true ⌝ }
-    ensures { λ r. ⌜ take count r ≡ entries (byteAt (present extents) (now (mem .entry))) list count ⌝ }
+    ensures { λ r. ⌜ take count r ≡ listedCpus (byteAt (present extents) (now (mem .entry))) list count ⌝ }
 {
     let mut cpus = [0u16; MONDOS];
     let mut i = 0;
@@ -84,14 +84,14 @@ fn read_list(extents: Extents, mem: &[u8], list: u64, count: usize) -> [u16; MON
     cpus
 }
 
-// Whether an entry names a cpu.
-fn is_cpu(entry: u16, cpu: usize) -> bool
-    ensures { λ r. ⌜ r ≡ eqb entry cpu ⌝ }
+// Whether a listed cpu is that cpu.
+fn is_cpu(listed: u16, cpu: usize) -> bool
+    ensures { λ r. ⌜ r ≡ eqb listed cpu ⌝ }
 {
-    (entry as usize) == cpu
+    (listed as usize) == cpu
 }
 
-// Whether an entry names the caller.
+// Whether a list names the caller.
 fn names_caller(cpus: &[u16; MONDOS], count: usize, cpu: usize) -> bool
     requires { ⌜ count ≤ 64 ⌝ }
     ensures { λ r. ⌜ r ≡ someBelow count (λ i. eqb (getD (now (cpus .entry)) i 0) cpu) ⌝ }
@@ -106,14 +106,14 @@ fn names_caller(cpus: &[u16; MONDOS], count: usize, cpu: usize) -> bool
     false
 }
 
-// Whether an entry is below the number of cpus.
-fn is_below(entry: u16, limit: u8) -> bool
-    ensures { λ r. ⌜ r ≡ ltb entry limit ⌝ }
+// Whether a listed cpu is below the number of cpus.
+fn is_below(listed: u16, limit: u8) -> bool
+    ensures { λ r. ⌜ r ≡ ltb listed limit ⌝ }
 {
-    entry < (limit as u16)
+    listed < (limit as u16)
 }
 
-// Whether each entry is a cpuid of the guest.
+// Whether each listed cpu is a cpuid of the guest.
 fn names_cpus(cpus: &[u16; MONDOS], count: usize, limit: u8) -> bool
     requires { ⌜ count ≤ 64 ⌝ }
     ensures { λ r. ⌜ r ≡ allBelow count (λ i. ltb (getD (now (cpus .entry)) i 0) limit) ⌝ }
@@ -128,7 +128,7 @@ fn names_cpus(cpus: &[u16; MONDOS], count: usize, limit: u8) -> bool
     true
 }
 
-// What is asked of the entries.
+// What is asked of the listed cpus.
 fn judge_cpus(cpus: &[u16; MONDOS], count: usize, cpu: usize, limit: u8) -> Verdict
     requires { ⌜ count ≤ 64 ⌝ }
     ensures { λ r. ⌜ ((rest : Ruling Outcome) → mondoCpus (λ i. getD (now (cpus .entry)) i 0) count cpu limit rest ≡ judged r rest) ⌝ }
@@ -142,7 +142,7 @@ fn judge_cpus(cpus: &[u16; MONDOS], count: usize, cpu: usize, limit: u8) -> Verd
     Verdict::Right
 }
 
-// The packet to one cpu's ring, whose entry in the list stands at mark and becomes 0xffff.
+// The packet to one cpu's ring; its place in the list is at mark and becomes 0xffff.
 fn send_one(
     extents: Extents,
     held: QueueRecord,
@@ -150,7 +150,7 @@ fn send_one(
     packet: &[u8; 64],
     mark: u64,
 ) -> Put
-    requires { ⌜ extents .count ≤ extentLimit ⌝ }
+    requires { ⌜ extents .extents ≤ extentLimit ⌝ }
     requires { ⌜ Ready (present extents) (length (now mem)) ⌝ }
     requires { ⌜ HeldSound extents held ⌝ }
     requires { ⌜ valid (present extents) mark 2 ≡ true ⌝ }
@@ -184,7 +184,7 @@ fn tails_of(plant: Plant) -> [u16; CPUS]
     let mut i = 0;
     while i < n {
         let c = plant.cpu[i];
-        let queue = c.queues[0];
+        let queue = c.queue[0];
         let held = queue.held;
         tails[i] = tail_of(held);
         i += 1;
@@ -217,7 +217,7 @@ fn send_all(
         let cpu = cpus[i] as usize;
         let mark = list + 2 * (i as u64);
         let c = plant.cpu[cpu];
-        let queue = c.queues[0];
+        let queue = c.queue[0];
         let held = queue.held;
         let now = at_tail(held, tails[cpu]);
         let put = send_one(extents, now, mem, packet, mark);

@@ -1,4 +1,5 @@
 pub mod Counts
+pub mod NameLaws
 pub mod Ordered
 pub mod Filled
 pub mod Places

@@ -8,14 +8,8 @@ use native.Mathlib.Omega.{arith}
 use lib.ListN.{getD}
 use Rattle.rules.specs.Scan.{someBelow}
 use Rattle.rules.specs.Image.{filled}
-use Rattle.rules.proofs.Scan.{some-end, pairs-next, pairs-found}
+use Rattle.rules.proofs.Scan.{some-same, some-end, pairs-next, pairs-found}
 use Rattle.partition.proofs.Filled.{fill-at}
-
--- tests that agree below n
-some-same : (p q : ℕ → Bool) (n : ℕ) → ((i : ℕ) → i < n → p i ≡ q i) → someBelow n p ≡ someBelow n q
-unfolding someBelow
-some-same p q zero f = refl
-some-same p q (suc n) f = rw (some-same p q n (λ i h. f i (omega arith)), f n (omega arith))
 
 module _ {A : Type 0} (blank : A) (p : A → A → Bool) where
   -- of the first i elements, one that p joins to element j

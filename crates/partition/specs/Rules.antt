@@ -18,7 +18,7 @@ holdsAt Rule.Right list i = extentRight (getD list i blankExtent)
 holdsAt Rule.Ascend list i = eqb i 0 || leb (getD list (i - 1) blankExtent .real + getD list (i - 1) blankExtent .count) (getD list i blankExtent .real)
 
 unfoldable pub holds : Rule → Extents → Bool
-holds rule e = allBelow (e .count) (λ i. holdsAt rule (e .list) i)
+holds rule e = allBelow (e .extents) (λ i. holdsAt rule (e .extent) i)
 
 unfoldable pub allHold : Rule → ℕ → List Guest → Bool
 allHold rule guests guest = allBelow guests (λ g. holds rule (getD guest g hollowGuest .extents))

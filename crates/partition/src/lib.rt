@@ -76,8 +76,8 @@ fn holds_at(rule: Rule, list: [Extent; EXTENTS], i: usize) -> bool
 fn holds(rule: Rule, e: Extents) -> bool
     ensures { λ r. ⌜ r ≡ holds rule e ⌝ }
 {
-    let n = e.count as usize;
-    let list = e.list;
+    let n = e.extents as usize;
+    let list = e.extent;
     let mut i = 0;
     while i < n {
         if !holds_at(rule, list, i) {
@@ -134,7 +134,7 @@ pub fn runs(t: Tables) -> [Extent; RUNS]
     let mut k = 0;
     while k < RUNS {
         let at = guest[k / EXTENTS];
-        let list = at.extents.list;
+        let list = at.extents.extent;
         runs[k] = list[k % EXTENTS];
         k += 1;
     }

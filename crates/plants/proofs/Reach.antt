@@ -40,7 +40,7 @@ typed-each (x ∷ xs) (u ∷ us) s = ((omega arith, omega arith), typed-each xs 
 
 -- which the code knows of a guest's extents
 typed-extents : (e : Extents) (vs : List Val) → Is (row several.the-type) e vs → Typed (present e)
-typed-extents e vs g = typed-take (e .count) (e .list) (typed-each (e .list) (g .1 .1 .1 .0 .0) (g .1 .1 .1 .0 .1 .1))
+typed-extents e vs g = typed-take (e .extents) (e .extent) (typed-each (e .extent) (g .1 .1 .1 .0 .0) (g .1 .1 .1 .0 .1 .1))
 
 ends : (es : List Extent) (b n : ℕ) → Typed es → valid es b n ≡ true → b + n < 2 ^ 64
 unfolding valid

@@ -35,7 +35,7 @@ module _ (v : ℕ → ℕ → Bool) (cpu : Cpu) (q : ℕ) (held : QueueRecord) (
       ⊎-elim
       (λ e. subst (λ (u : Queue). RecordSound v (u .held)) (sym e) h)
       (λ e. subst (λ (u : Queue). RecordSound v (u .held)) (sym e) k)
-      (set-cases (cpu .queues) q j (record { held = held }) blankQueue)
+      (set-cases (cpu .queue) q j (record { held = held }) blankQueue)
 
 pub queue-replaced : (extents : Extents) (plant : Plant) (n cpu q : ℕ) (held : QueueRecord) → Sound extents plant n → cpu < plant .cpus → RecordSound (valid (present extents)) held
     → Sound extents (withQueue plant cpu q held) n

@@ -1,19 +1,10 @@
 -- What the code gives back, as an outcome of the rules.
-use mathlib.Core.Bool.{Bool}
 use mathlib.Core.List.{[]}
-use Prim.Native.Nat.{ℕ}
-use lib.ListN.{take}
 use Rattle.rules.specs.declared.Answer.{Answer}
-use Rattle.rules.specs.declared.Extents.{Extents}
 use Rattle.rules.specs.declared.Plant.{Plant}
-use Rattle.rules.specs.Real.{valid}
 use Rattle.rules.specs.Rulings.{Outcome}
 use Rattle.plants.specs.declared.change.Done.{Done}
 use Rattle.plants.specs.Changes.{plantAfter}
-
--- the ranges that are valid through the extents that are there
-abbrev pub validIn : Extents → ℕ → ℕ → Bool
-validIn extents = valid (take (extents .count) (extents .list))
 
 -- the answer and the record after, with nothing written
 abbrev pub quietly : Plant → Done → Outcome

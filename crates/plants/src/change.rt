@@ -88,7 +88,7 @@ fn cpu_after(cpu: Cpu, change: CpuChange, tsbs: TsbList) -> Cpu
     match change {
         CpuChange::Queue(q, held) => {
             if q < QUEUES {
-                next.queues[q] = Queue { held };
+                next.queue[q] = Queue { held };
             }
         }
         CpuChange::Ctx0 => next.ctx0 = tsbs,

@@ -53,11 +53,11 @@ pub fn at_tail(held: QueueRecord, tail: u16) -> QueueRecord
 fn cpu_at_tail(cpu: Cpu, tail: u16) -> Cpu
     ensures { λ r. ⌜ r ≡ cpuAtTail cpu tail ⌝ }
 {
-    let queue = cpu.queues[0];
+    let queue = cpu.queue[0];
     let held = queue.held;
     let after = at_tail(held, tail);
     let mut next = cpu;
-    next.queues[0] = Queue { held: after };
+    next.queue[0] = Queue { held: after };
     next
 }
 

@@ -28,7 +28,7 @@ fn next_tail(ring: Ring) -> u16
 
 // An entry at the tail of a queue's ring, which moves on, if there is a ring with room. It takes the one record, not the plant's.
 pub fn put_entry(extents: Extents, held: QueueRecord, mem: &mut [u8], entry: &[u8; 64]) -> Put
-    requires { ⌜ extents .count ≤ extentLimit ⌝ }
+    requires { ⌜ extents .extents ≤ extentLimit ⌝ }
     requires { ⌜ Ready (present extents) (length (now mem)) ⌝ }
     requires { ⌜ HeldSound extents held ⌝ }
     ensures { λ r. ⌜ PutsIn extents (putIn held (now (entry .entry))) (now (mem .entry)) r (now (mem .exit)) ⌝ }

@@ -52,7 +52,7 @@ module _ (tables : Tables) (memory : List ℕ) (event : Event) (keep : keepRules
     own-machine : machineOf (withPlant tables g (done g .plant)) (apply (extentsOf tables g) memory (done g .writes)) g ≡ moved (machineOf tables memory g) event
     own-machine =
         let limit : tables .guests ≤ guestLimit = guests-few tables keep in
-        let counted : guestAt tables g .extents .count ≤ extentLimit = few tables memory event keep long g h in
+        let counted : guestAt tables g .extents .extents ≤ extentLimit = few tables memory event keep long g h in
         ap (takenAlone (apply (extentsOf tables g) memory (done g .writes)))
         (getD-set-same (tables .guest) g (record { extents = guestAt tables g .extents; plant = done g .plant }) hollowGuest (placed (tables .guest) g hollowGuest not-hollow))
         ∙ ap (λ (s : Sight). record { plant = done g .plant; sight = s })

@@ -12,7 +12,7 @@ use Rattle.image.proofs.load.Reads as load-reads
 use Rattle.tables.proofs.keep_rules.Reads as keep-rules-reads
 use Rattle.tables.proofs.long_enough.Reads as long-enough-reads
 use Rattle.host.proofs.event.Reads as event-reads
-use Rattle.host.proofs.entry_of.Reads as entry-of-reads
+use Rattle.host.proofs.door_of.Reads as door-of-reads
 use Rattle.host.proofs.seat_of.Reads as seat-of-reads
 use Rattle.session.specs.declared.feeder.Fed.{Fed}
 use Rattle.session.specs.Feeding.{Progress, Feeds}
@@ -46,9 +46,9 @@ one-outcome o r s m n p q =
 pub event-determined : (κs : _) (a : _) (r s : _) (ws vs : _) → event-reads.Post κs a r ws → event-reads.Post κs a s vs → (r ≡ s) × (now (ws .1 .0) ≡ now (vs .1 .0))
 event-determined κs a r s ws vs p q = one-outcome _ r s _ _ p q
 
--- its steps: host::entry_of and host::seat_of
-pub entry-of-determined : (κs : _) (a : _) (r s : _) (ws vs : _) → entry-of-reads.Post κs a r ws → entry-of-reads.Post κs a s vs → r ≡ s
-entry-of-determined κs a r s ws vs p q = p ∙ sym q
+-- its steps: host::door_of and host::seat_of
+pub door-of-determined : (κs : _) (a : _) (r s : _) (ws vs : _) → door-of-reads.Post κs a r ws → door-of-reads.Post κs a s vs → r ≡ s
+door-of-determined κs a r s ws vs p q = p ∙ sym q
 
 pub seat-of-determined : (κs : _) (a : _) (r s : _) (ws vs : _) → seat-of-reads.Post κs a r ws → seat-of-reads.Post κs a s vs → r ≡ s
 seat-of-determined κs a r s ws vs p q = p ∙ sym q

@@ -37,7 +37,7 @@ abbrev pub otherTables : Tables
 otherTables = record {
   guests = 2;
   guest = workedGuest 2 3 0x100 ∷ record {
-    extents = record { count = 1; list = record { real = 0; count = 2; host = 0 } ∷ replicate 3 blankExtent };
+    extents = record { extents = 1; extent = record { real = 0; count = 2; host = 0 } ∷ replicate 3 blankExtent };
     plant = record { versions = noVersions; cpus = 1; cpu = replicate 8 blankCpu; sources = 0; source = replicate 16 blankSource };
   } ∷ blankGuest ∷ blankGuest ∷ [];
 }

@@ -5,7 +5,16 @@ use Rattle.rules.specs.declared.Answer.the-variants.{Done}
 use Rattle.rules.specs.Image.{load}
 use Rattle.rules.proofs.Examples.{cases, Hold, examples, workedImage, workedTables, worked-image}
 use Rattle.rules.proofs.AcceptedCalls.{AcceptedCalls, accepted-calls}
-use Rattle.rules.proofs.EntryCases.{EntryCases, entry-cases}
+use Rattle.rules.proofs.DoorCases.{DoorCases, door-cases}
+use Rattle.rules.proofs.CallCases.{CallCases, call-cases}
+use Rattle.rules.proofs.QueueCases.{QueueCases, queue-cases}
+use Rattle.rules.proofs.MondoCases.{MondoCases, mondo-cases}
+use Rattle.rules.proofs.TsbCases.{TsbCases, tsb-cases}
+use Rattle.rules.proofs.MemoryCases.{MemoryCases, memory-cases}
+use Rattle.rules.proofs.SourceCases.{SourceCases, source-cases}
+use Rattle.rules.proofs.ImageCases.{ImageCases, image-cases}
+use Rattle.rules.proofs.TextCases.{TextCases, text-cases}
+use Rattle.rules.proofs.KeptCases.{KeptCases, kept-cases}
 
 -- the image of the worked session loads to the tables that one expects
 pub the-worked-image : load workedImage ≡ record { answer = Done; tables = workedTables }
@@ -19,6 +28,10 @@ the-examples = examples
 pub the-accepted-calls : AcceptedCalls
 the-accepted-calls = accepted-calls
 
--- tables that each break one rule answer 101, and the other refusals at the entry are as the paper says
-pub the-entry-cases : EntryCases
-the-entry-cases = entry-cases
+-- tables that each break one rule answer 101, and the other refusals at the door are as the paper says
+pub the-door-cases : DoorCases
+the-door-cases = door-cases
+
+-- every refusal and every effect of a call, an event, an image and a line, section by section
+pub the-cases : CallCases × QueueCases × MondoCases × TsbCases × MemoryCases × SourceCases × ImageCases × TextCases × KeptCases
+the-cases = (call-cases, queue-cases, mondo-cases, tsb-cases, memory-cases, source-cases, image-cases, text-cases, kept-cases)

@@ -27,7 +27,7 @@ use Rattle.memory.proofs.Checked.{guests-strangers}
 use Rattle.tables.proofs.SoundTables.{guests-few, pages-apart}
 use Rattle.kept.proofs.Settled.{settled, event-settled, few}
 use Rattle.promises.specs.Words.{Passes, isOwner, belongs, Unchanged, Untouched}
-use Rattle.promises.specs.Promises.{Isolation, NobodysBytes, RefusedAtEntry}
+use Rattle.promises.specs.Promises.{Isolation, NobodysBytes, RefusedAtTheDoor}
 
 -- what the test of the owner tells
 pub owner-told : (g : ℕ) (w : Owner) → isOwner g w ≡ true → w ≡ Owner.Guest g
@@ -37,18 +37,18 @@ owner-told g (Owner.Guest h) e = ap Owner.Guest (eqb-true h g e)
 pub owner-not : (g : ℕ) (w : Owner) → isOwner g w ≡ false → w ≡ Owner.Guest g → ⊥
 owner-not g w e q = false≢true (sym e ∙ ap (isOwner g) q ∙ eq-eqb g g refl)
 
--- An event that is refused at the entry, among them a raise that answers 104, changes nothing at all.
-pub refused-at-entry : RefusedAtEntry
+-- An event that is refused at the door, among them a raise that answers 104, changes nothing at all.
+pub refused-at-the-door : RefusedAtTheDoor
 unfolding hostEvent
-refused-at-entry tables memory event r e = rw e (refl, refl)
+refused-at-the-door tables memory event r e = rw e (refl, refl)
 
 -- a place below the limit where no guest is has no extent
-absent-none : (tables : Tables) → keepRules tables ≡ true → (f : ℕ) → f < guestLimit → tables .guests ≤ f → guestAt tables f .extents .count ≡ 0
+absent-none : (tables : Tables) → keepRules tables ≡ true → (f : ℕ) → f < guestLimit → tables .guests ≤ f → guestAt tables f .extents .extents ≡ 0
 unfolding keepRules listRight guestBlank extentsBlank
 absent-none tables keep f h l =
     let guests = and-left (listRight guestLimit (tables .guests) (λ g. guestKeeps (guestAt tables g)) (λ g. guestBlank (guestAt tables g))) _ keep in
     let place = all-at (λ g. if ltb g (tables .guests) then guestKeeps (guestAt tables g) else guestBlank (guestAt tables g)) guestLimit f (and-right (leb (tables .guests) guestLimit) _ guests) h in
-    eqb-true _ 0 (and-left (eqb (guestAt tables f .extents .count) 0) _ (and-left (extentsBlank (guestAt tables f .extents)) _ (rw (le-ltb f (tables .guests) l) at place)))
+    eqb-true _ 0 (and-left (eqb (guestAt tables f .extents .extents) 0) _ (and-left (extentsBlank (guestAt tables f .extents)) _ (rw (le-ltb f (tables .guests) l) at place)))
 
 module _ (tables : Tables) (memory : List ℕ) (event : Event) (keep : keepRules tables ≡ true) (long : longEnough tables (length memory) ≡ true) where
   -- a host offset that is none of the owner's keeps its byte
@@ -71,10 +71,10 @@ module _ (tables : Tables) (memory : List ℕ) (event : Event) (keep : keepRules
       go true e = rw e (getD-set-other (tables .guest) g f _ hollowGuest (λ q. other (ap Owner.Guest (sym q))))
       go false e = rw e
 
-  place-few : (f : ℕ) → f < guestLimit → guestAt tables f .extents .count ≤ extentLimit
+  place-few : (f : ℕ) → f < guestLimit → guestAt tables f .extents .extents ≤ extentLimit
   place-few f h = go (ltb f (tables .guests)) refl
     where
-      go : (t : Bool) → ltb f (tables .guests) ≡ t → guestAt tables f .extents .count ≤ extentLimit
+      go : (t : Bool) → ltb f (tables .guests) ≡ t → guestAt tables f .extents .extents ≤ extentLimit
       go true e = few tables memory event keep long f (ltb-true f (tables .guests) e)
       go false e = omega (arith, absent-none tables keep f h (ltb-false f (tables .guests) e))
 
@@ -108,7 +108,7 @@ module _ (tables : Tables) (memory : List ℕ) (event : Event) where
   every-host {P} passing still = go (keepRules tables) refl (longEnough tables (length memory)) refl
     where
       same : (r : Refusal) → hostRule tables memory event ≡ refused r → P (hostEvent tables memory event)
-      same r e = still (hostEvent tables memory event) (refused-at-entry tables memory event r e)
+      same r e = still (hostEvent tables memory event) (refused-at-the-door tables memory event r e)
 
       go : (t : Bool) → keepRules tables ≡ t → (u : Bool) → longEnough tables (length memory) ≡ u → P (hostEvent tables memory event)
       go true e true l = passing (record { keep = e; long = l })

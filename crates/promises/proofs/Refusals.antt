@@ -29,7 +29,7 @@ use Rattle.rules.specs.Statuses.{statusOf}
 use Rattle.rules.specs.Rulings.{Ruling, refused, granted, Outcome, outcomeOf, _or-refuse_then_, _grants_, if_then_else_}
 use Rattle.rules.specs.Versions.{groupOf, known, majorOf, newest, set-version, get-version}
 use Rattle.rules.specs.Queues.{isQueue, forward, newRing, put, ringOf, baseAndSize, cpu-qconf, cpu-qinfo, cpu-myid, write-head}
-use Rattle.rules.specs.Mondo.{entryAt, entries, Sent, sendAll, sentAs, cpu-mondo-send}
+use Rattle.rules.specs.Mondo.{listedCpu, listedCpus, Sent, sendAll, sentAs, cpu-mondo-send}
 use Rattle.rules.specs.Tsb.{newTsbs, mmu-tsb-ctx0, mmu-tsb-ctxnon0}
 use Rattle.rules.specs.Memory.{wholePages, mem-scrub, mem-sync, wholeWord, store-word, load-word, newStatistics, setOrClear, mmustat-conf, mmustat-info}
 use Rattle.rules.specs.Sources.{found, sysinoOf, targetNumber, targetSet, deviceEntry, get-enabled, set-enabled, get-state, set-state, get-target, set-target, get-cookie, set-cookie, intr-devino2sysino, sourceCall, cookieCall, intr, vintr, raiseAt, raise}
@@ -120,9 +120,9 @@ module _ (plant : Plant) (r : Refusal) where
       still-then (leb 1 count && leb count 64) EINVAL _
       (still-then (eqb (dataAt % 64) 0 && eqb (list % 2) 0) EBADALIGN _
       (still-then (sight .valid dataAt 64 && sight .valid list (2 * count)) ENORADDR _
-      (still-then (not (someBelow count (λ i. eqb (entryAt (sight .byte) list i) cpu))) EINVAL _
-      (still-then (allBelow count (λ i. ltb (entryAt (sight .byte) list i) (plant .cpus))) ENOCPU _
-      (sent-still n (sendAll plant (entries (sight .byte) list count) (bytesFrom (sight .byte) dataAt 64) list) _ refl)))))
+      (still-then (not (someBelow count (λ i. eqb (listedCpu (sight .byte) list i) cpu))) EINVAL _
+      (still-then (allBelow count (λ i. ltb (listedCpu (sight .byte) list i) (plant .cpus))) ENOCPU _
+      (sent-still n (sendAll plant (listedCpus (sight .byte) list count) (bytesFrom (sight .byte) dataAt 64) list) _ refl)))))
 
   -- TSB lists and memory
   ctx0-still : (sight : Sight) (cpu ntsb pointer : ℕ) → Still (mmu-tsb-ctx0 sight plant cpu ntsb pointer)
@@ -270,16 +270,16 @@ module _ (tables : Tables) (memory : List ℕ) (event : Event) (r : Refusal) (ot
           rw (s .0, s .1) (ap (λ l. record { guests = tables .guests; guest = l }) (set-getD (tables .guest) g hollowGuest), refl))
       go false q = rw q (λ e. (refl, refl))
 
-  by-entry : (t u : Bool) → StillHost (t or-refuse BadTables then u or-refuse ShortMemory then answeredBy tables memory event (ownerOf tables event))
-  by-entry true true = by-owner (ownerOf tables event)
-  by-entry true false = λ e. (refl, refl)
-  by-entry false u = λ e. (refl, refl)
+  by-door : (t u : Bool) → StillHost (t or-refuse BadTables then u or-refuse ShortMemory then answeredBy tables memory event (ownerOf tables event))
+  by-door true true = by-owner (ownerOf tables event)
+  by-door true false = λ e. (refl, refl)
+  by-door false u = λ e. (refl, refl)
 
 -- For every tables, memory and event, an answer that is a refusal leaves the tables and every byte of memory as they were, if it
 -- is not excepted.
 pub refusal-changes-nothing : RefusalChangesNothing
 unfolding hostEvent hostRule
-refusal-changes-nothing tables memory event r other = by-entry tables memory event r other (keepRules tables) (longEnough tables (length memory))
+refusal-changes-nothing tables memory event r other = by-door tables memory event r other (keepRules tables) (longEnough tables (length memory))
 
 -- What the two excepted of 0x102 do.
 module _ (tables : Tables) (memory : List ℕ) (c : Call) (r : Refusal) (clears : Clears r) where

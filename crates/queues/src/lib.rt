@@ -17,10 +17,11 @@ ghost use Prim.Native.Nat.{_≤_, _<_, _-_};
 ghost use Rattle.rules.specs.Limits.{cpuLimit, extentLimit, queueLimit};
 ghost use Rattle.rules.specs.Rulings.{outcomeOf};
 ghost use Rattle.rules.specs.declared.Plant.{Plant as PlantRecord};
-ghost use Rattle.rules.specs.Kept.{cpuAt, queueAt, withHead};
+ghost use Rattle.rules.specs.Kept.{present, cpuAt, queueAt, withHead};
+ghost use Rattle.rules.specs.Real.{valid};
 ghost use Rattle.rules.specs.Queues.{forward, cpu-qconf, cpu-qinfo, cpu-myid, write-head};
 ghost use Rattle.plants.specs.Changes.{doneBy};
-ghost use Rattle.plants.specs.Done.{quietly, saying, validIn};
+ghost use Rattle.plants.specs.Done.{quietly, saying};
 ghost use Rattle.queues.specs.Places.{placeOf};
 ghost use Rattle.queues.specs.Rings.{PlacesIn, PlacesSound, newHead, movedOf};
 
@@ -43,7 +44,7 @@ fn queue_at(plant: Plant, cpu: usize, q: usize) -> QueueRecord
     ensures { λ r. ⌜ r ≡ queueAt (cpuAt plant cpu) q ⌝ }
 {
     let c = plant.cpu[cpu];
-    let queue = c.queues[q];
+    let queue = c.queue[q];
     queue.held
 }
 
@@ -56,8 +57,8 @@ fn held_now(cpu: usize, q: usize, held: QueueRecord) -> Done
 
 // 0x14: a queue's ring is set, or with n = 0 unset.
 pub fn cpu_qconf(extents: Extents, plant: Plant, cpu: usize, queue: u64, base: u64, n: u64) -> Done
-    requires { ⌜ (extents .count ≤ extentLimit) × (cpu < cpuLimit) ⌝ }
-    ensures { λ r. ⌜ quietly plant r ≡ outcomeOf plant (cpu-qconf (validIn extents) plant cpu queue base n) ⌝ }
+    requires { ⌜ (extents .extents ≤ extentLimit) × (cpu < cpuLimit) ⌝ }
+    ensures { λ r. ⌜ quietly plant r ≡ outcomeOf plant (cpu-qconf (valid (present extents)) plant cpu queue base n) ⌝ }
 {
     let place = place_of(queue);
     let Found::At(q) = place else {

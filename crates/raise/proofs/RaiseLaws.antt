@@ -1,7 +1,7 @@
 -- The rule of a raise at each return of the code, from the tests on the way.
 use mathlib.Core.Path.{_≡_, refl, sym, ap, _∙_, subst}
 use mathlib.Core.Bool.{Bool, true, false, not, true≢false}
-use mathlib.Core.List.{List, []}
+use mathlib.Core.List.{List, [], _++_}
 use Prim.Native.Nat.{ℕ, _<_}
 use native.Mathlib.Omega.{arith}
 use lib.ListN.{length, replicate}
@@ -18,7 +18,7 @@ use Rattle.rules.specs.Kept.{cpuAt, queueAt, sourceAt, withSource, withState}
 use Rattle.rules.specs.Real.{wordBytes, apply}
 use Rattle.rules.specs.Rulings.{Ruling, granted, Outcome, if_then_else_, says}
 use Rattle.rules.specs.Queues.{hasRoom, putIn, Put, put}
-use Rattle.rules.specs.Sources.{deviceEntry, raiseAt}
+use Rattle.rules.specs.Sources.{deviceWord, deviceEntry, raiseAt}
 use Rattle.memory.specs.Ready.{present}
 use Rattle.records.specs.Sound.{TargetSound, Sound}
 use Rattle.plants.specs.declared.change.Change.{Change}
@@ -29,7 +29,7 @@ use Rattle.plants.specs.Follows.{Follows}
 use Rattle.plants.specs.Put.{PutsIn}
 use Rattle.plants.proofs.ChangeLaws.{source-after, delivered-after}
 use Rattle.plants.proofs.OutcomeLaws.{quiet, quiet-told, source-changes}
-use Rattle.raise.specs.Raised.{deviceWord, entryOf, becoming, Delivers}
+use Rattle.raise.specs.Raised.{becoming, Delivers}
 
 -- a target is a cpuid
 pub target-below : (extents : Extents) (plant : Plant) (n i c : ℕ) → Sound extents plant n → i < plant .sources → sourceAt plant i .target ≡ Target.Cpu c → c < plant .cpus
@@ -47,8 +47,8 @@ pub word-sysino : (plant : Plant) (i : ℕ) → (plant .versions .interrupt ≡ 
 unfolding deviceWord
 word-sysino plant i h = rw (ne-eqb (plant .versions .interrupt) 2 h)
 
-pub entry-made : (w : ℕ) (bytes entry : List ℕ) → bytes ≡ wordBytes w → entry ≡ sets (replicate 64 0) 0 bytes → entry ≡ entryOf w
-unfolding entryOf wordBytes
+pub entry-made : (w : ℕ) (bytes entry : List ℕ) → bytes ≡ wordBytes w → entry ≡ sets (replicate 64 0) 0 bytes → entry ≡ wordBytes w ++ replicate 56 0
+unfolding wordBytes
 entry-made w bytes entry p q = q ∙ rw p
 
 -- what is told of a source that stays delivered, and of one that is received
@@ -87,7 +87,7 @@ unwritten (QueueRecord.Set ring) entry h = go (hasRoom ring) refl h
     go false e h = rw e
 
 -- an entry to the target
-module _ (extents : Extents) (plant : Plant) (m : List ℕ) (i c w : ℕ) (entry : List ℕ) (a : w ≡ deviceWord plant i) (b : entry ≡ entryOf w) (r : Told) (m′ : List ℕ)
+module _ (extents : Extents) (plant : Plant) (m : List ℕ) (i c w : ℕ) (entry : List ℕ) (a : w ≡ deviceWord plant i) (b : entry ≡ wordBytes w ++ replicate 56 0) (r : Told) (m′ : List ℕ)
     (p : PutsIn extents (putIn (queueAt (cpuAt plant c) 1) entry) m r m′) (s : Delivers (sourceAt plant i) c) where
   abbrev telling : Put → Ruling Outcome
   telling t =
@@ -96,7 +96,7 @@ module _ (extents : Extents) (plant : Plant) (m : List ℕ) (i c w : ℕ) (entry
       else says (One 1) (withSource plant i (withState (sourceAt plant i) 1))
 
   entry-is : deviceEntry plant i ≡ entry
-  unfolding deviceEntry deviceWord entryOf
+  unfolding deviceEntry
   entry-is = rw (b, a)
 
   told : raiseAt plant i ≡ telling (put plant c 0x3d entry)

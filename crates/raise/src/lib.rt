@@ -9,14 +9,16 @@ use rules::Extents;
 use rules::Plant;
 use rules::Target;
 ghost use mathlib.Core.Path.{_≡_};
+ghost use mathlib.Core.List.{_++_};
 ghost use Prim.Native.Nat.{_<_};
-ghost use lib.ListN.{length};
+ghost use lib.ListN.{length, replicate};
 ghost use Rattle.rules.specs.Limits.{sourceLimit};
 ghost use Rattle.rules.specs.Kept.{sourceAt};
-ghost use Rattle.rules.specs.Sources.{raiseAt};
+ghost use Rattle.rules.specs.Real.{wordBytes};
+ghost use Rattle.rules.specs.Sources.{deviceWord, raiseAt};
 ghost use Rattle.records.specs.Sound.{Sound};
 ghost use Rattle.plants.specs.Follows.{Follows};
-ghost use Rattle.raise.specs.Raised.{deviceWord, entryOf, becoming, Delivers};
+ghost use Rattle.raise.specs.Raised.{becoming, Delivers};
 
 // Word 0 of a source's entry: its cookie, or under 1.0 its sysino.
 fn device_word(plant: Plant, i: usize) -> u64
@@ -32,7 +34,7 @@ fn device_word(plant: Plant, i: usize) -> u64
 
 // An entry of one word and seven zero words.
 fn entry_of(word: u64) -> [u8; 64]
-    ensures { λ r. ⌜ r ≡ entryOf word ⌝ }
+    ensures { λ r. ⌜ r ≡ wordBytes word ++ replicate 56 0 ⌝ }
 {
     let mut entry = [0u8; 64];
     let bytes = memory::word_bytes(word);
@@ -60,7 +62,7 @@ fn deliver(extents: Extents, plant: Plant, mem: &mut [u8], i: usize, cpu: usize)
 {
     let entry = entry_of(device_word(plant, i));
     let c = plant.cpu[cpu];
-    let queue = c.queues[1];
+    let queue = c.queue[1];
     let held = queue.held;
     let put = put_entry(extents, held, mem, &entry);
     if !put.room {

@@ -34,7 +34,7 @@ TargetSound cpus (Target.Cpu c) = c < cpus
 
 -- a guest with a memory of n bytes
 pub record Sound (extents : Extents) (plant : Plant) (n : ℕ) : Type 0 where
-  pub few : extents .count ≤ extentLimit
+  pub few : extents .extents ≤ extentLimit
   pub ready : Ready (present extents) n
   pub cpus : plant .cpus ≤ cpuLimit
   pub sources : plant .sources ≤ sourceLimit

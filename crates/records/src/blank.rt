@@ -74,8 +74,8 @@ pub fn tsbs() -> TsbList
     ensures { λ r. ⌜ r ≡ blankTsbs ⌝ }
 {
     TsbList {
-        count: 0,
-        list: [Tsb {
+        tsbs: 0,
+        tsb: [Tsb {
             index: 0,
             associativity: 0,
             entries: 0,
@@ -90,7 +90,7 @@ pub fn cpus() -> [Cpu; CPUS]
     ensures { λ r. ⌜ r ≡ replicate cpuLimit blankCpu ⌝ }
 {
     [Cpu {
-        queues: [Queue {
+        queue: [Queue {
             held: QueueRecord::Unset,
         }; QUEUES],
         ctx0: tsbs(),
@@ -104,8 +104,8 @@ pub fn guest() -> Guest
 {
     Guest {
         extents: Extents {
-            count: 0,
-            list: extents(),
+            extents: 0,
+            extent: extents(),
         },
         plant: Plant {
             versions: versions(),

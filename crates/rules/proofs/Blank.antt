@@ -61,13 +61,13 @@ tsb-blank t e =
     let g : t .base ≡ 0 = eqb-true _ _ (and-right (eqb (t .mask) 0) _ (and-right (eqb (t .context) 0) _ s)) in
     λ i. record { index = a i; associativity = b i; entries = c i; context = d i; mask = f i; base = g i }
 
-pub tsbs-blank : (tsbs : TsbList) → length (tsbs .list) ≡ tsbLimit → tsbsBlank tsbs ≡ true → tsbs ≡ blankTsbs
+pub tsbs-blank : (tsbs : TsbList) → length (tsbs .tsb) ≡ tsbLimit → tsbsBlank tsbs ≡ true → tsbs ≡ blankTsbs
 unfolding tsbsBlank
 tsbs-blank tsbs n e =
-    let p : tsbs .count ≡ 0 = eqb-true _ _ (and-left (eqb (tsbs .count) 0) _ e) in
-    let q : tsbs .list ≡ replicate tsbLimit blankTsb =
-    all-the-same blankTsb blankTsb tsbLimit (tsbs .list) n (λ i h. tsb-blank (tsbAt tsbs i) (all-at (λ i. tsbBlank (tsbAt tsbs i)) tsbLimit i (and-right (eqb (tsbs .count) 0) _ e) h)) in
-    λ i. record { count = p i; list = q i }
+    let p : tsbs .tsbs ≡ 0 = eqb-true _ _ (and-left (eqb (tsbs .tsbs) 0) _ e) in
+    let q : tsbs .tsb ≡ replicate tsbLimit blankTsb =
+    all-the-same blankTsb blankTsb tsbLimit (tsbs .tsb) n (λ i h. tsb-blank (tsbAt tsbs i) (all-at (λ i. tsbBlank (tsbAt tsbs i)) tsbLimit i (and-right (eqb (tsbs .tsbs) 0) _ e) h)) in
+    λ i. record { tsbs = p i; tsb = q i }
 
 pub source-blank : (s : Source) → sourceBlank s ≡ true → s ≡ blankSource
 unfolding sourceBlank
@@ -99,12 +99,12 @@ versions-blank v e =
 
 -- a cpu and a guest whose lists have their lengths
 pub record WholeCpu (cpu : Cpu) : Type 0 where
-  pub queues : length (cpu .queues) ≡ queueLimit
-  pub ctx0 : length (cpu .ctx0 .list) ≡ tsbLimit
-  pub ctxnon0 : length (cpu .ctxnon0 .list) ≡ tsbLimit
+  pub queues : length (cpu .queue) ≡ queueLimit
+  pub ctx0 : length (cpu .ctx0 .tsb) ≡ tsbLimit
+  pub ctxnon0 : length (cpu .ctxnon0 .tsb) ≡ tsbLimit
 
 pub record WholeGuest (guest : Guest) : Type 0 where
-  pub extents : length (guest .extents .list) ≡ extentLimit
+  pub extents : length (guest .extents .extent) ≡ extentLimit
   pub cpus : length (guest .plant .cpu) ≡ cpuLimit
   pub each : (c : ℕ) → c < cpuLimit → WholeCpu (cpuAt (guest .plant) c)
   pub sources : length (guest .plant .source) ≡ sourceLimit
@@ -114,12 +114,12 @@ unfolding cpuBlank
 cpu-blank cpu w e =
     let queues = allBelow queueLimit (λ q. recordBlank (queueAt cpu q)) in
     let rest = and-right queues _ e in
-    let a : cpu .queues ≡ replicate queueLimit blankQueue =
-    all-the-same blankQueue blankQueue queueLimit (cpu .queues) (w .queues) (λ q h. queue (getD (cpu .queues) q blankQueue) (all-at (λ q. recordBlank (queueAt cpu q)) queueLimit q (and-left queues _ e) h)) in
+    let a : cpu .queue ≡ replicate queueLimit blankQueue =
+    all-the-same blankQueue blankQueue queueLimit (cpu .queue) (w .queues) (λ q h. queue (getD (cpu .queue) q blankQueue) (all-at (λ q. recordBlank (queueAt cpu q)) queueLimit q (and-left queues _ e) h)) in
     let b : cpu .ctx0 ≡ blankTsbs = tsbs-blank _ (w .ctx0) (and-left (tsbsBlank (cpu .ctx0)) _ rest) in
     let c : cpu .ctxnon0 ≡ blankTsbs = tsbs-blank _ (w .ctxnon0) (and-left (tsbsBlank (cpu .ctxnon0)) _ (and-right (tsbsBlank (cpu .ctx0)) _ rest)) in
     let d : cpu .statistics ≡ 0 = eqb-true _ _ (and-right (tsbsBlank (cpu .ctxnon0)) _ (and-right (tsbsBlank (cpu .ctx0)) _ rest)) in
-    λ i. record { queues = a i; ctx0 = b i; ctxnon0 = c i; statistics = d i }
+    λ i. record { queue = a i; ctx0 = b i; ctxnon0 = c i; statistics = d i }
   where
     queue : (u : Queue) → recordBlank (u .held) ≡ true → u ≡ blankQueue
     queue u p = let z : u .held ≡ QueueRecord.Unset = record-blank _ p in λ i. record { held = z i }
@@ -135,9 +135,9 @@ blank-alone guest w e =
     let cpus = allBelow cpuLimit (λ c. cpuBlank (cpuAt plant c)) in
     let t = and-left counts _ s in
     let u = and-right counts _ s in
-    let a : extents .count ≡ 0 = eqb-true _ _ (and-left (eqb (extents .count) 0) _ r) in
-    let b : extents .list ≡ replicate extentLimit blankExtent =
-    all-the-same blankExtent blankExtent extentLimit (extents .list) (w .extents) (λ i h. extent-blank (extentAt extents i) (all-at (λ i. extentBlank (extentAt extents i)) extentLimit i (and-right (eqb (extents .count) 0) _ r) h)) in
+    let a : extents .extents ≡ 0 = eqb-true _ _ (and-left (eqb (extents .extents) 0) _ r) in
+    let b : extents .extent ≡ replicate extentLimit blankExtent =
+    all-the-same blankExtent blankExtent extentLimit (extents .extent) (w .extents) (λ i h. extent-blank (extentAt extents i) (all-at (λ i. extentBlank (extentAt extents i)) extentLimit i (and-right (eqb (extents .extents) 0) _ r) h)) in
     let c : plant .versions ≡ noVersions = versions-blank _ (and-left (versionsBlank (plant .versions)) _ t) in
     let d : plant .cpus ≡ 0 = eqb-true _ _ (and-left (eqb (plant .cpus) 0) _ (and-right (versionsBlank (plant .versions)) _ t)) in
     let f : plant .sources ≡ 0 = eqb-true _ _ (and-right (eqb (plant .cpus) 0) _ (and-right (versionsBlank (plant .versions)) _ t)) in
@@ -146,6 +146,6 @@ blank-alone guest w e =
     let k : plant .source ≡ replicate sourceLimit blankSource =
     all-the-same blankSource blankSource sourceLimit (plant .source) (w .sources) (λ i h. source-blank (sourceAt plant i) (all-at (λ i. sourceBlank (sourceAt plant i)) sourceLimit i (and-right cpus _ u) h)) in
     λ i. record {
-      extents = record { count = a i; list = b i };
+      extents = record { extents = a i; extent = b i };
       plant = record { versions = c i; cpus = d i; cpu = g i; sources = f i; source = k i };
     }

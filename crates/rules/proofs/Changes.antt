@@ -72,7 +72,7 @@ abbrev pub tsbRow : ℕ → ℕ → ℕ → ℕ → Tsb → Row
 tsbRow function g c i t = tsb function g c i (t .index) (t .associativity) (t .entries) (t .context) (t .mask) (t .base)
 
 abbrev pub tsbRows : ℕ → ℕ → ℕ → TsbList → List Row
-tsbRows function g c list = tsbs function g c (list .count) ∷ each 4 (λ i. tsbRow function g c i (tsbAt list i) ∷ [])
+tsbRows function g c list = tsbs function g c (list .tsbs) ∷ each 4 (λ i. tsbRow function g c i (tsbAt list i) ∷ [])
 
 abbrev pub cpuRows : ℕ → ℕ → Cpu → List Row
 cpuRows g c cpu =
@@ -86,7 +86,7 @@ abbrev pub guestRows : ℕ → Guest → List Row
 guestRows g guest =
     let plant : Plant = guest .plant in
     let v : Versions = plant .versions in
-    (counts g (plant .cpus) (plant .sources) (guest .extents .count) ∷ majors g (v .sun4v) (v .core) (v .interrupt) (v .statistics) ∷ [])
+    (counts g (plant .cpus) (plant .sources) (guest .extents .extents) ∷ majors g (v .sun4v) (v .core) (v .interrupt) (v .statistics) ∷ [])
     ++ each 4 (λ i. let x : Extent = extentAt (guest .extents) i in extent g i (x .real) (x .count) (x .host) ∷ [])
     ++ each (plant .cpus) (λ c. cpuRows g c (cpuAt plant c))
     ++ each (plant .sources) (λ i. sourceRows g i (sourceAt plant i))

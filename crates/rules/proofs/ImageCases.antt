@@ -112,7 +112,7 @@ loadedTables = record {
   guests = 2;
   guest =
       record {
-        extents = record { count = 2; list = run 1 2 3 ∷ run 3 1 1 ∷ blankExtent ∷ blankExtent ∷ [] };
+        extents = record { extents = 2; extent = run 1 2 3 ∷ run 3 1 1 ∷ blankExtent ∷ blankExtent ∷ [] };
         plant = record {
           versions = noVersions;
           cpus = 8;
@@ -125,7 +125,7 @@ loadedTables = record {
         };
       }
       ∷ record {
-        extents = record { count = 1; list = run 0xfff_ffff 1 0xffff ∷ replicate 3 blankExtent };
+        extents = record { extents = 1; extent = run 0xfff_ffff 1 0xffff ∷ replicate 3 blankExtent };
         plant = record { versions = noVersions; cpus = 1; cpu = replicate 8 blankCpu; sources = 0; source = replicate 16 blankSource };
       }
       ∷ blankGuest
@@ -139,11 +139,11 @@ placesOf tables =
     let guest : Guest = guestAt tables 0 in
     let cpu : Cpu = cpuAt (guest .plant) 0 in
     length (tables .guest)
-    ∷ length (guest .extents .list)
+    ∷ length (guest .extents .extent)
     ∷ length (guest .plant .cpu)
-    ∷ length (cpu .queues)
-    ∷ length (cpu .ctx0 .list)
-    ∷ length (cpu .ctxnon0 .list)
+    ∷ length (cpu .queue)
+    ∷ length (cpu .ctx0 .tsb)
+    ∷ length (cpu .ctxnon0 .tsb)
     ∷ length (guest .plant .source)
     ∷ []
 

@@ -3,7 +3,7 @@ pub mod Blank
 pub mod CallCases
 pub mod Changes
 pub mod Computing
-pub mod EntryCases
+pub mod DoorCases
 pub mod Examples
 pub mod ImageCases
 pub mod KeptCases

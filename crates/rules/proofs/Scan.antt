@@ -48,6 +48,17 @@ unfolding someBelow
 none-of p zero f = refl
 none-of p (suc n) f = rw (none-of p n (λ i h. f i (omega arith)), f n (omega arith))
 
+-- tests that say the same of each number below n
+pub some-same : (p q : ℕ → Bool) (n : ℕ) → ((i : ℕ) → i < n → p i ≡ q i) → someBelow n p ≡ someBelow n q
+unfolding someBelow
+some-same p q zero f = refl
+some-same p q (suc n) f = rw (some-same p q n (λ i h. f i (omega arith)), f n (omega arith))
+
+pub all-same : (p q : ℕ → Bool) (n : ℕ) → ((i : ℕ) → i < n → p i ≡ q i) → allBelow n p ≡ allBelow n q
+unfolding allBelow
+all-same p q zero f = refl
+all-same p q (suc n) f = rw (all-same p q n (λ i h. f i (omega arith)), f n (omega arith))
+
 -- a search in a search: of the pairs (i, j) with i below j
 module _ (p : ℕ → ℕ → Bool) where
   pub pairs-next : (j i : ℕ) → someBelow j (λ k. someBelow k (λ m. p k m)) ≡ false → someBelow i (λ m. p j m) ≡ false → i ≤ j → j ≤ i → someBelow (j + 1) (λ k. someBelow k (λ m. p k m)) ≡ false

@@ -42,8 +42,8 @@ passing-invalid extents e base n p = past-each (present extents) base n below
   where
     below : (i : ℕ) → i < length (present extents) → high (getD (present extents) i blankExtent) < base + n
     below i l =
-        let k : i < extents .count = omega (arith, length-take (extents .count) (extents .list)) in
-        rw (getD-take (extents .count) (extents .list) i blankExtent k) (omega (arith, ends-early (extentAt extents i) (all-at (λ j. extentRight (extentAt extents j)) (extents .count) i e k)))
+        let k : i < extents .extents = omega (arith, length-take (extents .extents) (extents .extent)) in
+        rw (getD-take (extents .extents) (extents .extent) i blankExtent k) (omega (arith, ends-early (extentAt extents i) (all-at (λ j. extentRight (extentAt extents j)) (extents .extents) i e k)))
 
 -- and so of every guest, in tables that hold
 there : (limit count : ℕ) (right blank : ℕ → Bool) → listRight limit count right blank ≡ true → (i : ℕ) → i < count → right i ≡ true
@@ -55,9 +55,9 @@ there limit count right blank e i h =
 extents-right : (extents : Extents) → extentsKeep extents ≡ true → extentsRight extents ≡ true
 unfolding extentsKeep extentsRight
 extents-right extents e =
-    all-of (λ i. extentRight (extentAt extents i)) (extents .count)
-    (there extentLimit (extents .count) (λ i. extentRight (extentAt extents i)) (λ i. extentBlank (extentAt extents i))
-    (and-left _ (ascend extents) (and-right (leb 1 (extents .count)) _ e)))
+    all-of (λ i. extentRight (extentAt extents i)) (extents .extents)
+    (there extentLimit (extents .extents) (λ i. extentRight (extentAt extents i)) (λ i. extentBlank (extentAt extents i))
+    (and-left _ (ascend extents) (and-right (leb 1 (extents .extents)) _ e)))
 
 pub passing-invalid-for : (tables : Tables) → keepRules tables ≡ true → (g : ℕ) → g < tables .guests
     → (base n : ℕ) → 2 ^ 64 < base + n → valid (extentsOf tables g) base n ≡ false

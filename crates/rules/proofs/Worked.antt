@@ -15,7 +15,7 @@ workedImage =
 -- a guest of the image: its cpus, one page at real 0 on a host page, and one source of devino 5 that supports cookies
 abbrev pub workedGuest : ℕ → ℕ → ℕ → Guest
 workedGuest cpus host devhandle = record {
-  extents = record { count = 1; list = record { real = 0; count = 1; host = host } ∷ replicate 3 blankExtent };
+  extents = record { extents = 1; extent = record { real = 0; count = 1; host = host } ∷ replicate 3 blankExtent };
   plant = record {
     versions = noVersions;
     cpus = cpus;

@@ -53,7 +53,7 @@ readLists bytes at cpus extents sources =
     reaches bytes (at + extentBits * extents + sourceBits * sources) or-refuse ImageShort then
     granted
     (record {
-      extents = record { count = extents; list = filled extentLimit blankExtent (λ i. readExtent bytes (at + extentBits * i)) extents };
+      extents = record { extents = extents; extent = filled extentLimit blankExtent (λ i. readExtent bytes (at + extentBits * i)) extents };
       plant = record {
         versions = noVersions;
         cpus = cpus;
@@ -73,7 +73,7 @@ readGuest bytes start =
 
 -- the bit behind a guest that starts at `at`
 abbrev pub behind : ℕ → Guest → ℕ
-behind at guest = at + countsBits + extentBits * guest .extents .count + sourceBits * guest .plant .sources
+behind at guest = at + countsBits + extentBits * guest .extents .extents + sourceBits * guest .plant .sources
 
 -- what has been read: the guests, and the bit behind the last of them
 pub record Partition : Type 0 where
@@ -92,12 +92,12 @@ unfoldable pub extentRight : Extent → Bool
 extentRight x = leb 1 (x .count) && (leb (x .real + x .count) realPages && leb (x .host + x .count) hostPages)
 
 unfoldable pub extentsRight : Extents → Bool
-extentsRight extents = allBelow (extents .count) (λ i. extentRight (extentAt extents i))
+extentsRight extents = allBelow (extents .extents) (λ i. extentRight (extentAt extents i))
 
 -- "a guest's extents ascend in real page without overlap": each but the first starts at or past the end of the one before it
 unfoldable pub ascend : Extents → Bool
 ascend extents =
-    allBelow (extents .count) (λ i.
+    allBelow (extents .extents) (λ i.
     eqb i 0 || leb (extentAt extents (i - 1) .real + extentAt extents (i - 1) .count) (extentAt extents i .real))
 
 -- run k of the host's runs of pages: extent k % 4 of guest k / 4; one that is absent has no page
@@ -124,11 +124,11 @@ abbrev pub named : Source → ℕ → ℕ → Bool
 named s devhandle devino = eqb (s .devhandle) devhandle && eqb (s .devino) devino
 
 unfoldable pub twins : Tables → ℕ → ℕ → Bool
-twins tables i j = (listed tables i && listed tables j) && named (listedAt tables i) (listedAt tables j .devhandle) (listedAt tables j .devino)
+twins tables i j = listed tables i && named (listedAt tables i) (listedAt tables j .devhandle) (listedAt tables j .devino)
 
--- "no two sources on the host have the same devhandle and devino"
+-- "no two sources on the host have the same devhandle and devino": one that is there, and one before it
 unfoldable pub sourceTwice : Tables → Bool
-sourceTwice tables = someBelow (guestLimit * sourceLimit) (λ j. someBelow j (λ i. twins tables i j))
+sourceTwice tables = someBelow (guestLimit * sourceLimit) (λ j. listed tables j && someBelow j (λ i. twins tables i j))
 
 -- "Zero bits fill the last byte", and "nothing behind": the byte that holds the last bit is the last one
 unfoldable pub filledOut : List ℕ → ℕ → Bool

@@ -18,10 +18,10 @@ abbrev pub blankTsb : Tsb
 blankTsb = record { index = 0; associativity = 0; entries = 0; context = 0; mask = 0; base = 0 }
 
 abbrev pub blankTsbs : TsbList
-blankTsbs = record { count = 0; list = replicate tsbLimit blankTsb }
+blankTsbs = record { tsbs = 0; tsb = replicate tsbLimit blankTsb }
 
 abbrev pub blankCpu : Cpu
-blankCpu = record { queues = replicate queueLimit blankQueue; ctx0 = blankTsbs; ctxnon0 = blankTsbs; statistics = 0 }
+blankCpu = record { queue = replicate queueLimit blankQueue; ctx0 = blankTsbs; ctxnon0 = blankTsbs; statistics = 0 }
 
 abbrev pub blankSource : Source
 blankSource = record { devhandle = 0; devino = 0; cookies = false; enabled = 0; state = 0; target = Target.Unset; cookie = 0 }
@@ -31,7 +31,7 @@ noVersions = record { sun4v = 0; core = 0; interrupt = 0; statistics = 0 }
 
 abbrev pub blankGuest : Guest
 blankGuest = record {
-  extents = record { count = 0; list = replicate extentLimit blankExtent };
+  extents = record { extents = 0; extent = replicate extentLimit blankExtent };
   plant = record { versions = noVersions; cpus = 0; cpu = replicate cpuLimit blankCpu; sources = 0; source = replicate sourceLimit blankSource };
 }
 
@@ -42,11 +42,11 @@ noGuests = record { guests = 0; guest = replicate guestLimit blankGuest }
 -- Where a record is found. What stands past the end of a list is a record with nothing in it; no rule reads there.
 
 abbrev pub hollowCpu : Cpu
-hollowCpu = record { queues = []; ctx0 = record { count = 0; list = [] }; ctxnon0 = record { count = 0; list = [] }; statistics = 0 }
+hollowCpu = record { queue = []; ctx0 = record { tsbs = 0; tsb = [] }; ctxnon0 = record { tsbs = 0; tsb = [] }; statistics = 0 }
 
 abbrev pub hollowGuest : Guest
 hollowGuest = record {
-  extents = record { count = 0; list = [] };
+  extents = record { extents = 0; extent = [] };
   plant = record { versions = noVersions; cpus = 0; cpu = []; sources = 0; source = [] };
 }
 
@@ -57,11 +57,11 @@ abbrev pub plantAt : Tables → ℕ → Plant
 plantAt tables g = guestAt tables g .plant
 
 abbrev pub extentAt : Extents → ℕ → Extent
-extentAt extents i = getD (extents .list) i blankExtent
+extentAt extents i = getD (extents .extent) i blankExtent
 
 -- the extents that are there, and those of a guest
 abbrev pub present : Extents → List Extent
-present extents = take (extents .count) (extents .list)
+present extents = take (extents .extents) (extents .extent)
 
 abbrev pub extentsOf : Tables → ℕ → List Extent
 extentsOf tables g = present (guestAt tables g .extents)
@@ -70,10 +70,10 @@ abbrev pub cpuAt : Plant → ℕ → Cpu
 cpuAt plant c = getD (plant .cpu) c hollowCpu
 
 abbrev pub queueAt : Cpu → ℕ → QueueRecord
-queueAt cpu q = getD (cpu .queues) q blankQueue .held
+queueAt cpu q = getD (cpu .queue) q blankQueue .held
 
 abbrev pub tsbAt : TsbList → ℕ → Tsb
-tsbAt tsbs i = getD (tsbs .list) i blankTsb
+tsbAt tsbs i = getD (tsbs .tsb) i blankTsb
 
 abbrev pub sourceAt : Plant → ℕ → Source
 sourceAt plant i = getD (plant .source) i blankSource
@@ -99,25 +99,25 @@ unfoldable pub withSource : Plant → ℕ → Source → Plant
 withSource plant i source = withSources plant (set (plant .source) i source)
 
 abbrev pub cpuWithQueue : Cpu → ℕ → QueueRecord → Cpu
-cpuWithQueue cpu q held = record { queues = set (cpu .queues) q (record { held = held }); ctx0 = cpu .ctx0; ctxnon0 = cpu .ctxnon0; statistics = cpu .statistics }
+cpuWithQueue cpu q held = record { queue = set (cpu .queue) q (record { held = held }); ctx0 = cpu .ctx0; ctxnon0 = cpu .ctxnon0; statistics = cpu .statistics }
 
 unfoldable pub withQueue : Plant → ℕ → ℕ → QueueRecord → Plant
 withQueue plant c q held = withCpu plant c (cpuWithQueue (cpuAt plant c) q held)
 
 abbrev pub cpuWithCtx0 : Cpu → TsbList → Cpu
-cpuWithCtx0 cpu tsbs = record { queues = cpu .queues; ctx0 = tsbs; ctxnon0 = cpu .ctxnon0; statistics = cpu .statistics }
+cpuWithCtx0 cpu tsbs = record { queue = cpu .queue; ctx0 = tsbs; ctxnon0 = cpu .ctxnon0; statistics = cpu .statistics }
 
 unfoldable pub withCtx0 : Plant → ℕ → TsbList → Plant
 withCtx0 plant c tsbs = withCpu plant c (cpuWithCtx0 (cpuAt plant c) tsbs)
 
 abbrev pub cpuWithCtxnon0 : Cpu → TsbList → Cpu
-cpuWithCtxnon0 cpu tsbs = record { queues = cpu .queues; ctx0 = cpu .ctx0; ctxnon0 = tsbs; statistics = cpu .statistics }
+cpuWithCtxnon0 cpu tsbs = record { queue = cpu .queue; ctx0 = cpu .ctx0; ctxnon0 = tsbs; statistics = cpu .statistics }
 
 unfoldable pub withCtxnon0 : Plant → ℕ → TsbList → Plant
 withCtxnon0 plant c tsbs = withCpu plant c (cpuWithCtxnon0 (cpuAt plant c) tsbs)
 
 abbrev pub cpuWithStatistics : Cpu → ℕ → Cpu
-cpuWithStatistics cpu a = record { queues = cpu .queues; ctx0 = cpu .ctx0; ctxnon0 = cpu .ctxnon0; statistics = a }
+cpuWithStatistics cpu a = record { queue = cpu .queue; ctx0 = cpu .ctx0; ctxnon0 = cpu .ctxnon0; statistics = a }
 
 unfoldable pub withStatistics : Plant → ℕ → ℕ → Plant
 withStatistics plant c a = withCpu plant c (cpuWithStatistics (cpuAt plant c) a)

@@ -2,28 +2,28 @@
 use mathlib.Core.Bool.{Bool, true, _&&_, not}
 use mathlib.Core.List.{List, [], _∷_, _++_}
 use Prim.Native.Nat.{ℕ, zero, suc, _+_, _*_, _%_}
-use lib.Dec.{leb, ltb, eqb}
+use lib.Dec.{ltb, eqb}
 use Rattle.rules.specs.Types.{Plant, Done, Refused, EINVAL, EBADALIGN, ENORADDR, ENOCPU, EWOULDBLOCK}
-use Rattle.rules.specs.Scan.{someBelow, allBelow}
+use Rattle.rules.specs.Scan.{someBelow, allBelow, _is-from_to_}
 use Rattle.rules.specs.Real.{Sight, Write, numberOf, bytesFrom}
 use Rattle.rules.specs.Rulings.{Ruling, granted, Outcome, _or-refuse_then_, if_then_else_}
 use Rattle.rules.specs.Queues.{Put, put}
 
--- entry i of a list of cpus, and its first k entries: 2 bytes each
-abbrev pub entryAt : (ℕ → ℕ) → ℕ → ℕ → ℕ
-entryAt byte list i = numberOf byte (list + 2 * i) 2
+-- cpu i of a list of cpus, and its first k: 2 bytes each
+abbrev pub listedCpu : (ℕ → ℕ) → ℕ → ℕ → ℕ
+listedCpu byte list i = numberOf byte (list + 2 * i) 2
 
-unfoldable pub entries : (ℕ → ℕ) → ℕ → ℕ → List ℕ
-entries byte list zero = []
-entries byte list (suc k) = entries byte list k ++ (entryAt byte list k ∷ [])
+unfoldable pub listedCpus : (ℕ → ℕ) → ℕ → ℕ → List ℕ
+listedCpus byte list zero = []
+listedCpus byte list (suc k) = listedCpus byte list k ++ (listedCpu byte list k ∷ [])
 
--- what sending has come to: the plant's record, whether no entry was left, and the writes
+-- what sending has come to: the plant's record, whether none was left, and the writes
 pub record Sent : Type 0 where
   pub plant : Plant
   pub all : Bool
   pub writes : List Write
 
--- "and the list entry becomes 0xffff": the list entry stands at `at`
+-- "and the list entry becomes 0xffff": it stands at `at`
 abbrev pub marked : ℕ → Bool → List Write
 marked at sent = if sent then record { at = at; bytes = 0xff ∷ 0xff ∷ [] } ∷ [] else []
 
@@ -53,9 +53,9 @@ module _ (sight : Sight) (plant : Plant) (cpu : ℕ) where
   -- of the guest (0xffff too) ENOCPU. List and data are read once, before any write."
   unfoldable pub cpu-mondo-send : ℕ → ℕ → ℕ → Ruling Outcome
   cpu-mondo-send count list dataAt =
-      (leb 1 count && leb count 64) or-refuse EINVAL then
+      (count is-from 1 to 64) or-refuse EINVAL then
       (eqb (dataAt % 64) 0 && eqb (list % 2) 0) or-refuse EBADALIGN then
       (valid dataAt 64 && valid list (2 * count)) or-refuse ENORADDR then
-      not (someBelow count (λ i. eqb (entryAt byte list i) cpu)) or-refuse EINVAL then
-      allBelow count (λ i. ltb (entryAt byte list i) (plant .cpus)) or-refuse ENOCPU then
-      granted (sentAs (sendAll plant (entries byte list count) (bytesFrom byte dataAt 64) list))
+      not (someBelow count (λ i. eqb (listedCpu byte list i) cpu)) or-refuse EINVAL then
+      allBelow count (λ i. ltb (listedCpu byte list i) (plant .cpus)) or-refuse ENOCPU then
+      granted (sentAs (sendAll plant (listedCpus byte list count) (bytesFrom byte dataAt 64) list))

@@ -5,13 +5,13 @@ use Prim.Native.Nat.{ℕ, _+_, _-_, _*_, _/_, _%_}
 use lib.Dec.{leb, ltb, eqb}
 use Rattle.rules.specs.Types.{Ring, QueueRecord, Plant, Answer, One, Two, EINVAL, EBADALIGN, ENORADDR}
 use Rattle.rules.specs.Kept.{cpuAt, queueAt, withQueue, withHead, withTail}
-use Rattle.rules.specs.Scan.{power-of-two_from_to_}
+use Rattle.rules.specs.Scan.{_is-from_to_, power-of-two_from_to_}
 use Rattle.rules.specs.Real.{Write}
 use Rattle.rules.specs.Rulings.{Ruling, refused, granted, Outcome, _or-refuse_then_, _grants_, if_then_else_, says, done}
 
 -- "queue not 0x3c to 0x3f": the cpu's four records, in that order
 abbrev pub isQueue : ℕ → Bool
-isQueue queue = leb 0x3c queue && leb queue 0x3f
+isQueue queue = queue is-from 0x3c to 0x3f
 
 abbrev pub indexOf : ℕ → ℕ
 indexOf queue = queue - 0x3c

@@ -116,8 +116,11 @@ vintr plant call devhandle devino value =
     cookieCall plant i value call
 
 -- "word 0 cookie, or under 1.0 sysino; seven zero words"
+unfoldable pub deviceWord : Plant → ℕ → ℕ
+deviceWord plant i = if eqb (plant .versions .interrupt) 2 then sourceAt plant i .cookie else i
+
 unfoldable pub deviceEntry : Plant → ℕ → List ℕ
-deviceEntry plant i = wordBytes (if eqb (plant .versions .interrupt) 2 then sourceAt plant i .cookie else i) ++ replicate 56 0
+deviceEntry plant i = wordBytes (deviceWord plant i) ++ replicate 56 0
 
 -- raise: "delivered stays. Else the state becomes received; if enabled, target set and its 0x3d ring has room, an entry is
 -- written at its tail, which moves on, .. and the state is delivered. Value 1 is the state after."

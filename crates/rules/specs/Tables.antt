@@ -34,7 +34,7 @@ tsbBlank t =
     && (eqb (t .context) 0 && (eqb (t .mask) 0 && eqb (t .base) 0))
 
 unfoldable pub tsbsBlank : TsbList → Bool
-tsbsBlank tsbs = eqb (tsbs .count) 0 && allBelow tsbLimit (λ i. tsbBlank (tsbAt tsbs i))
+tsbsBlank tsbs = eqb (tsbs .tsbs) 0 && allBelow tsbLimit (λ i. tsbBlank (tsbAt tsbs i))
 
 unfoldable pub cpuBlank : Cpu → Bool
 cpuBlank cpu =
@@ -54,7 +54,7 @@ unfoldable pub versionsBlank : Versions → Bool
 versionsBlank v = (eqb (v .sun4v) 0 && eqb (v .core) 0) && (eqb (v .interrupt) 0 && eqb (v .statistics) 0)
 
 unfoldable pub extentsBlank : Extents → Bool
-extentsBlank extents = eqb (extents .count) 0 && allBelow extentLimit (λ i. extentBlank (extentAt extents i))
+extentsBlank extents = eqb (extents .extents) 0 && allBelow extentLimit (λ i. extentBlank (extentAt extents i))
 
 unfoldable pub plantBlank : Plant → Bool
 plantBlank plant =
@@ -79,7 +79,7 @@ recordRight valid QueueRecord.Unset = true
 recordRight valid (QueueRecord.Set ring) = ringRight valid ring
 
 unfoldable pub tsbsRight : (ℕ → ℕ → Bool) → TsbList → Bool
-tsbsRight valid tsbs = listRight tsbLimit (tsbs .count) (λ i. accepts (judgedTsb valid (tsbAt tsbs i))) (λ i. tsbBlank (tsbAt tsbs i))
+tsbsRight valid tsbs = listRight tsbLimit (tsbs .tsbs) (λ i. accepts (judgedTsb valid (tsbAt tsbs i))) (λ i. tsbBlank (tsbAt tsbs i))
 
 unfoldable pub cpuRight : (ℕ → ℕ → Bool) → Cpu → Bool
 cpuRight valid cpu =
@@ -117,8 +117,8 @@ sourceRight plant s =
 -- "the image's rules" of a guest's extents
 unfoldable pub extentsKeep : Extents → Bool
 extentsKeep extents =
-    leb 1 (extents .count)
-    && (listRight extentLimit (extents .count) (λ i. extentRight (extentAt extents i)) (λ i. extentBlank (extentAt extents i))
+    leb 1 (extents .extents)
+    && (listRight extentLimit (extents .extents) (λ i. extentRight (extentAt extents i)) (λ i. extentBlank (extentAt extents i))
     && ascend extents)
 
 unfoldable pub plantKeeps : (ℕ → ℕ → Bool) → Plant → Bool

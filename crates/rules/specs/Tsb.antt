@@ -65,7 +65,7 @@ newTsbs sight ntsb pointer =
     eqb (pointer % 8) 0 or-refuse EBADALIGN then
     sight .valid pointer (32 * ntsb) or-refuse ENORADDR then
     descriptors sight pointer ntsb grants λ list.
-    granted (record { count = ntsb; list = list })
+    granted (record { tsbs = ntsb; tsb = list })
 
 -- 0x20
 unfoldable pub mmu-tsb-ctx0 : Sight → Plant → ℕ → ℕ → ℕ → Ruling Outcome

@@ -1,5 +1,7 @@
 // Every type of the host's tables, events and answers: plain data, by value. What the numbers mean, and every rule about
 // them, stands in specs/, in the order of the paper.
+//
+// A list has the name of one of its elements, so that cpu[c] is cpu c. The plural counts how many are there, from the first on: cpus.
 
 pub mod widths;
 
@@ -44,8 +46,8 @@ pub struct Extent {
 }
 
 pub struct Extents {
-    pub count: u8,
-    pub list: [Extent; EXTENTS],
+    pub extents: u8,
+    pub extent: [Extent; EXTENTS],
 }
 
 // The ring of a queue: its first real address, and in bytes its size and the places of its head and tail.
@@ -77,13 +79,13 @@ pub struct Tsb {
 }
 
 pub struct TsbList {
-    pub count: u8,
-    pub list: [Tsb; TSBS],
+    pub tsbs: u8,
+    pub tsb: [Tsb; TSBS],
 }
 
 // Queues 0x3c to 0x3f, the TSB lists for context 0 and the other contexts, and the statistics address, 0 where there is none.
 pub struct Cpu {
-    pub queues: [Queue; QUEUES],
+    pub queue: [Queue; QUEUES],
     pub ctx0: TsbList,
     pub ctxnon0: TsbList,
     pub statistics: u64,
@@ -114,7 +116,7 @@ pub struct Versions {
     pub statistics: u8,
 }
 
-// All that a guest's calls can read or change, extents aside. cpus and sources count what is there of cpu and source.
+// All that a guest's calls can read or change, extents aside.
 pub struct Plant {
     pub versions: Versions,
     pub cpus: u8,
@@ -128,7 +130,6 @@ pub struct Guest {
     pub plant: Plant,
 }
 
-// guests counts what is there of guest.
 pub struct Tables {
     pub guests: u8,
     pub guest: [Guest; GUESTS],

@@ -26,10 +26,10 @@ use Rattle.records.specs.Sound.{Sound}
 use Rattle.plants.specs.declared.change.Done.{Done}
 use Rattle.plants.specs.Changes.{changing, plantAfter}
 use Rattle.plants.specs.Follows.{Follows}
-use Rattle.host.specs.declared.entry.Seat.{Seat}
-use Rattle.host.specs.Seats.{entryOf, seatOf}
+use Rattle.host.specs.declared.door.Seat.{Seat}
+use Rattle.host.specs.Seats.{doorOf, seatOf}
 use Rattle.plants.proofs.ChangeLaws.{same-after}
-use Rattle.host.proofs.EntryLaws.{entry-tells, seat-told, seat-sound, seat-refuses, seat-follows}
+use Rattle.host.proofs.DoorLaws.{door-tells, seat-told, seat-sound, seat-refuses, seat-follows}
 use Rattle.kept.proofs.Tables.{event-keeps}
 use Rattle.kept.proofs.Steady.{long-same, event-steady}
 use Rattle.text.specs.Lines.{imageOf}
@@ -40,8 +40,8 @@ module _ (tables : Tables) (memory line : List ℕ) where
   abbrev session : Session
   session = record { tables = tables; memory = memory }
 
-  abbrev entry : Verdict
-  entry = entryOf tables (length memory)
+  abbrev door : Verdict
+  door = doorOf tables (length memory)
 
   -- no line
   pub answers-bad : (v : Verdict) → Asked.Bad ≡ asked tables v (parse line) → answered session (parse line) ≡ record { session = session; text = textOf Reply.Bad }
@@ -78,37 +78,37 @@ module _ (tables : Tables) (memory line : List ℕ) where
   answers-loaded v r p e = rw e (answers-image v p)
 
   -- an event that no guest answers
-  pub answers-refused : (r : Refusal) → Asked.Refused r ≡ asked tables entry (parse line)
+  pub answers-refused : (r : Refusal) → Asked.Refused r ≡ asked tables door (parse line)
       → answered session (parse line) ≡ record { session = session; text = textOf (Reply.Event (Answer.Refused r)) }
   unfolding asked askedOf answered replied textOf
   answers-refused r = go (parse line)
     where
-      of : (e : Event) (s : Seat) → seatOf tables entry e ≡ s → Asked.Refused r ≡ askedOf tables entry e → seatOf tables entry e ≡ Seat.Refused r
+      of : (e : Event) (s : Seat) → seatOf tables door e ≡ s → Asked.Refused r ≡ askedOf tables door e → seatOf tables door e ≡ Seat.Refused r
       of e (Seat.Refused x) q p = let w : x ≡ r = cc (p, q) in q ∙ ap Seat.Refused w
       of e (Seat.Guest g) q p = let z : _≡_ {A = ℕ} 0 1 = cc (p, q) in absurd (omega arith)
 
-      go : (l : Line) → Asked.Refused r ≡ asked tables entry l → answered session l ≡ record { session = session; text = textOf (Reply.Event (Answer.Refused r)) }
+      go : (l : Line) → Asked.Refused r ≡ asked tables door l → answered session l ≡ record { session = session; text = textOf (Reply.Event (Answer.Refused r)) }
       go bad p = let z : _≡_ {A = ℕ} 0 1 = cc in absurd (omega arith)
       go (image bytes) p = let z : _≡_ {A = ℕ} 0 1 = cc in absurd (omega arith)
-      go (event e) p = ap (λ (o : HostOutcome). printedAs (afterEvent o)) (seat-refuses tables memory e r (of e (seatOf tables entry e) refl p))
+      go (event e) p = ap (λ (o : HostOutcome). printedAs (afterEvent o)) (seat-refuses tables memory e r (of e (seatOf tables door e) refl p))
 
   -- an event of a guest that is there
-  pub guest-seated : (g : ℕ) (e : Event) → Asked.Guest g e ≡ asked tables entry (parse line) → (parse line ≡ event e) × (seatOf tables entry e ≡ Seat.Guest g)
+  pub guest-seated : (g : ℕ) (e : Event) → Asked.Guest g e ≡ asked tables door (parse line) → (parse line ≡ event e) × (seatOf tables door e ≡ Seat.Guest g)
   unfolding asked askedOf
   guest-seated g e = go (parse line)
     where
-      of : (x : Event) (s : Seat) → seatOf tables entry x ≡ s → Asked.Guest g e ≡ askedOf tables entry x → (x ≡ e) × (seatOf tables entry x ≡ Seat.Guest g)
+      of : (x : Event) (s : Seat) → seatOf tables door x ≡ s → Asked.Guest g e ≡ askedOf tables door x → (x ≡ e) × (seatOf tables door x ≡ Seat.Guest g)
       of x (Seat.Refused r) q p = let z : _≡_ {A = ℕ} 0 1 = cc (p, q) in absurd (omega arith)
       of x (Seat.Guest h) q p = let w : h ≡ g = cc (p, q) in (cc (p, q), q ∙ ap Seat.Guest w)
 
-      go : (l : Line) → Asked.Guest g e ≡ asked tables entry l → (l ≡ event e) × (seatOf tables entry e ≡ Seat.Guest g)
+      go : (l : Line) → Asked.Guest g e ≡ asked tables door l → (l ≡ event e) × (seatOf tables door e ≡ Seat.Guest g)
       go bad p = let z : _≡_ {A = ℕ} 0 1 = cc in absurd (omega arith)
       go (image bytes) p = let z : _≡_ {A = ℕ} 0 1 = cc in absurd (omega arith)
       go (event x) p =
-          let w = of x (seatOf tables entry x) refl p in
-          (ap event (w .0), ap (λ (y : Event). seatOf tables entry y) (sym (w .0)) ∙ w .1)
+          let w = of x (seatOf tables door x) refl p in
+          (ap event (w .0), ap (λ (y : Event). seatOf tables door y) (sym (w .0)) ∙ w .1)
 
-  module _ (g : ℕ) (e : Event) (p : Asked.Guest g e ≡ asked tables entry (parse line)) where
+  module _ (g : ℕ) (e : Event) (p : Asked.Guest g e ≡ asked tables door (parse line)) where
     pub guest-fine : (g < guestLimit) × Sound (guestAt tables g .extents) (plantAt tables g) (length memory)
     guest-fine = seat-sound tables (length memory) e g (guest-seated g e p .1)
 
@@ -135,20 +135,20 @@ module _ (tables : Tables) (memory line : List ℕ) where
         answers-guest = rw (guest-seated g e p .0) (ap (λ (o : HostOutcome). printedAs (afterEvent o)) outcome)
 
         right : (keepRules tables ≡ true) × (longEnough tables (length memory) ≡ true)
-        right = entry-tells tables (length memory) (seat-told tables (length memory) e entry g (guest-seated g e p .1) .0)
+        right = door-tells tables (length memory) (seat-told tables (length memory) e door g (guest-seated g e p .1) .0)
 
         pub memory-same : length after ≡ length memory
         memory-same = ap (λ (o : HostOutcome). length (o .memory)) (sym outcome) ∙ event-steady tables memory e (right .0) (right .1) .1
 
-        -- it leaves the entry as it was
-        pub entry-same : entryOf next (length after) ≡ entry
-        unfolding entryOf
-        entry-same =
+        -- it leaves the door as it was
+        pub door-same : doorOf next (length after) ≡ door
+        unfolding doorOf
+        door-same =
             let kept : keepRules next ≡ true = ap (λ (o : HostOutcome). keepRules (o .tables)) (sym outcome) ∙ event-keeps tables memory e (right .0) in
             let same = ap (λ (o : HostOutcome). longEnough (o .tables) (length memory)) (sym outcome) ∙ long-same _ _ (event-steady tables memory e (right .0) (right .1) .0) (length memory) in
             rw (kept, memory-same, same, right .0, right .1)
 
--- The same, as the code holds it: v is the entry, x what was asked, and the code's match told what x is.
-module _ (tables : Tables) (memory line : List ℕ) (v : Verdict) (q : v ≡ entryOf tables (length memory)) (x : Asked) (p : x ≡ asked tables v (parse line)) where
-  pub asked-as : (y : Asked) → x ≡ y → y ≡ asked tables (entryOf tables (length memory)) (parse line)
+-- The same, as the code holds it: v is the door, x what was asked, and the code's match told what x is.
+module _ (tables : Tables) (memory line : List ℕ) (v : Verdict) (q : v ≡ doorOf tables (length memory)) (x : Asked) (p : x ≡ asked tables v (parse line)) where
+  pub asked-as : (y : Asked) → x ≡ y → y ≡ asked tables (doorOf tables (length memory)) (parse line)
   asked-as y e = sym e ∙ p ∙ ap (λ (u : Verdict). asked tables u (parse line)) q

@@ -12,7 +12,7 @@ use Rattle.rules.specs.declared.Tables.{Tables}
 use Rattle.rules.specs.Image.{load}
 use Rattle.rules.specs.Text.{Line, bad, image, event, parse}
 use Rattle.records.specs.declared.Verdict.{Verdict}
-use Rattle.host.specs.declared.entry.Seat.{Seat}
+use Rattle.host.specs.declared.door.Seat.{Seat}
 use Rattle.host.specs.Seats.{seatOf}
 use Rattle.text.specs.declared.line.Line.{Line as Told}
 use Rattle.text.specs.Lines.{told, imageOf}
@@ -21,43 +21,43 @@ use Rattle.session.specs.declared.ask.Asked.{Asked}
 use Rattle.session.specs.Asking.{asked, askedOf}
 use Rattle.session.proofs.ReplyLaws.{front}
 
-module _ (tables : Tables) (entry : Verdict) where
-  module _ (e : Event) (s : Seat) (p : s ≡ seatOf tables entry e) where
-    pub seat-refused : (r : Refusal) → s ≡ Seat.Refused r → Asked.Refused r ≡ askedOf tables entry e
+module _ (tables : Tables) (door : Verdict) where
+  module _ (e : Event) (s : Seat) (p : s ≡ seatOf tables door e) where
+    pub seat-refused : (r : Refusal) → s ≡ Seat.Refused r → Asked.Refused r ≡ askedOf tables door e
     unfolding askedOf
     seat-refused r q = rw (← p, q)
 
-    pub seat-guest : (g : ℕ) → s ≡ Seat.Guest g → Asked.Guest g e ≡ askedOf tables entry e
+    pub seat-guest : (g : ℕ) → s ≡ Seat.Guest g → Asked.Guest g e ≡ askedOf tables door e
     unfolding askedOf
     seat-guest g q = rw (← p, q)
 
   module _ (line : List ℕ) (t : Told) (p : t ≡ told (parse line)) where
-    pub line-bad : t ≡ Told.Bad → Asked.Bad ≡ asked tables entry (parse line)
+    pub line-bad : t ≡ Told.Bad → Asked.Bad ≡ asked tables door (parse line)
     unfolding asked told
     line-bad q = go (parse line) (sym p ∙ q)
       where
-        go : (l : Line) → told l ≡ Told.Bad → Asked.Bad ≡ asked tables entry l
+        go : (l : Line) → told l ≡ Told.Bad → Asked.Bad ≡ asked tables door l
         go bad e = refl
         go (image bytes) e = cc
         go (event x) e = cc
 
-    pub line-image : t ≡ Told.Image → Asked.Image ≡ asked tables entry (parse line)
+    pub line-image : t ≡ Told.Image → Asked.Image ≡ asked tables door (parse line)
     unfolding asked told
     line-image q = go (parse line) (sym p ∙ q)
       where
-        go : (l : Line) → told l ≡ Told.Image → Asked.Image ≡ asked tables entry l
+        go : (l : Line) → told l ≡ Told.Image → Asked.Image ≡ asked tables door l
         go bad e = cc
         go (image bytes) e = refl
         go (event x) e = cc
 
-    pub line-event : (e : Event) (r : Asked) → t ≡ Told.Event e → r ≡ askedOf tables entry e → r ≡ asked tables entry (parse line)
+    pub line-event : (e : Event) (r : Asked) → t ≡ Told.Event e → r ≡ askedOf tables door e → r ≡ asked tables door (parse line)
     unfolding asked told
     line-event e r q f = go (parse line) (sym p ∙ q)
       where
-        go : (l : Line) → told l ≡ Told.Event e → r ≡ asked tables entry l
+        go : (l : Line) → told l ≡ Told.Event e → r ≡ asked tables door l
         go bad x = let z : _≡_ {A = ℕ} 0 1 = cc in absurd (omega arith)
         go (image bytes) x = let z : _≡_ {A = ℕ} 0 1 = cc in absurd (omega arith)
-        go (event y) x = let w : e ≡ y = cc in f ∙ ap (askedOf tables entry) w
+        go (event y) x = let w : e ≡ y = cc in f ∙ ap (askedOf tables door) w
 
 -- the bytes of an image, in a buffer of 1,024
 module _ (line m o : List ℕ) (n : ℕ) (w : (n ≡ length (imageOf (parse line))) × (o ≡ sets m 0 (imageOf (parse line)))) (e : length m ≡ 1024) where

@@ -15,7 +15,7 @@ use rules::Refusal;
 use rules::Tables;
 use text::Line;
 
-// Nothing, as it is no line; an image; an event that is refused at the entry; an event of a guest that is there.
+// Nothing, as it is no line; an image; an event that is refused at the door; an event of a guest that is there.
 pub enum Asked {
     Bad,
     Image,
@@ -23,24 +23,24 @@ pub enum Asked {
     Guest(usize, Event),
 }
 
-fn ask_event(tables: Tables, entry: Verdict, event: Event) -> Asked
-    requires { ⌜ (isRight entry ≡ true → keepRules tables ≡ true) ⌝ }
-    ensures { λ r. ⌜ r ≡ askedOf tables entry event ⌝ }
+fn ask_event(tables: Tables, door: Verdict, event: Event) -> Asked
+    requires { ⌜ (isRight door ≡ true → keepRules tables ≡ true) ⌝ }
+    ensures { λ r. ⌜ r ≡ askedOf tables door event ⌝ }
 {
-    match host::seat_of(tables, entry, event) {
+    match host::seat_of(tables, door, event) {
         Seat::Refused(r) => Asked::Refused(r),
         Seat::Guest(g) => Asked::Guest(g, event),
     }
 }
 
-pub(crate) fn ask(tables: Tables, entry: Verdict, line: &[u8]) -> Asked
-    requires { ⌜ (isRight entry ≡ true → keepRules tables ≡ true) ⌝ }
-    ensures { λ r. ⌜ r ≡ asked tables entry (parse (now (line .entry))) ⌝ }
+pub(crate) fn ask(tables: Tables, door: Verdict, line: &[u8]) -> Asked
+    requires { ⌜ (isRight door ≡ true → keepRules tables ≡ true) ⌝ }
+    ensures { λ r. ⌜ r ≡ asked tables door (parse (now (line .entry))) ⌝ }
 {
     match text::parse_line(line) {
         Line::Bad => Asked::Bad,
         Line::Image => Asked::Image,
-        Line::Event(event) => ask_event(tables, entry, event),
+        Line::Event(event) => ask_event(tables, door, event),
     }
 }
 

@@ -42,7 +42,7 @@ pub fn begin() -> Feeder
 }
 
 // Takes as much of the piece as there is room for answers: any byte can end a line, and an answer has at most REPLY bytes.
-// The entry is looked at once, and again after each image: no event changes what it comes to.
+// The door is looked at once, and again after each image: no event changes what it comes to.
 pub fn feed(feeder: Feeder, mem: &mut [u8], piece: &[u8], out: &mut [u8]) -> Fed
     ensures { λ r. ⌜ Feeds (feedOf feeder (now (mem .entry)) (now (piece .entry)) (now (out .entry)))
         (room (now (piece .entry)) (now (out .entry)))
@@ -51,7 +51,7 @@ pub fn feed(feeder: Feeder, mem: &mut [u8], piece: &[u8], out: &mut [u8]) -> Fed
     let mut tables = feeder.tables;
     let mut line = feeder.line;
     let mut held = least(feeder.held, LINE);
-    let mut entry = host::entry_of(tables, mem.len());
+    let mut door = host::door_of(tables, mem.len());
     let n = least(piece.len(), out.len() / REPLY);
     let mut at = 0;
     let mut i = 0;
@@ -65,13 +65,13 @@ pub fn feed(feeder: Feeder, mem: &mut [u8], piece: &[u8], out: &mut [u8]) -> Fed
             }
             continue;
         }
-        match ask(tables, entry, &line[..held]) {
+        match ask(tables, door, &line[..held]) {
             Asked::Bad => at = put_reply(Reply::Bad, out, at),
             Asked::Image => {
                 let loaded = load_line(&line[..held]);
                 let after = loaded.tables;
                 tables = after;
-                entry = host::entry_of(tables, mem.len());
+                door = host::door_of(tables, mem.len());
                 let answer = loaded.answer;
                 at = put_reply(Reply::Image(answer), out, at);
             }

@@ -9,6 +9,7 @@ use native.Mathlib.Numerals.{add-one}
 use native.Mathlib.Omega.{arith}
 use lib.ListN.{getD}
 use Rattle.rules.specs.Scan.{allBelow}
+use Rattle.rules.proofs.Scan.{all-same}
 use Rattle.rules.specs.Image.{filled}
 use Rattle.partition.proofs.Filled.{fill-at}
 
@@ -25,12 +26,6 @@ module _ (p : ℕ → Bool) (s : Bool) where
   every-end i n b a u v =
       let q : i ≡ n = omega arith in
       rw q at a
-
--- tests that agree below n
-all-same : (p q : ℕ → Bool) (n : ℕ) → ((i : ℕ) → i < n → p i ≡ q i) → allBelow n p ≡ allBelow n q
-unfolding allBelow
-all-same p q zero f = refl
-all-same p q (suc n) f = rw (all-same p q n (λ i h. f i (omega arith)), f n (omega arith))
 
 -- every element of a list that is filled by f
 pub every-filled : {A : Type 0} (q : A → Bool) (blank : A) (f : ℕ → A) (n : ℕ) (l : List A) → l ≡ filled n blank f n → allBelow n (λ i. q (getD l i blank)) ≡ allBelow n (λ i. q (f i))

@@ -15,7 +15,7 @@ module _ (guest : Guest) (t : Bool) (p : t ≡ extentsKeep (guest .extents)) whe
   unfolding guestKeeps
   guest-broken h = rw (← p, not-true t h)
 
-  pub guest-few : not t ≡ false → guest .extents .count ≤ extentLimit
+  pub guest-few : not t ≡ false → guest .extents .extents ≤ extentLimit
   guest-few h = extents-few (guest .extents) (sym p ∙ not-false t h)
 
   pub guest-whole : not t ≡ false → (s : Bool) → s ≡ plantKeeps (valid (present (guest .extents))) (guest .plant) → s ≡ guestKeeps guest

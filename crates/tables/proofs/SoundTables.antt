@@ -20,15 +20,15 @@ use Rattle.records.proofs.SoundLaws.{list-length, list-there, plant-cpus, plant
 
 module _ (e : Extents) (p : extentsKeep e ≡ true) where
   abbrev places : Bool
-  places = listRight extentLimit (e .count) (λ i. extentRight (extentAt e i)) (λ i. extentBlank (extentAt e i))
+  places = listRight extentLimit (e .extents) (λ i. extentRight (extentAt e i)) (λ i. extentBlank (extentAt e i))
 
-  pub extents-few : e .count ≤ extentLimit
+  pub extents-few : e .extents ≤ extentLimit
   unfolding extentsKeep
-  extents-few = list-length _ _ _ _ (and-left places (ascend e) (and-right (leb 1 (e .count)) _ p))
+  extents-few = list-length _ _ _ _ (and-left places (ascend e) (and-right (leb 1 (e .extents)) _ p))
 
   pub extents-ascend : ascend e ≡ true
   unfolding extentsKeep
-  extents-ascend = and-right places (ascend e) (and-right (leb 1 (e .count)) _ p)
+  extents-ascend = and-right places (ascend e) (and-right (leb 1 (e .extents)) _ p)
 
 -- a guest that is there
 module _ (tables : Tables) (keep : keepRules tables ≡ true) where
@@ -61,7 +61,7 @@ module _ (tables : Tables) (keep : keepRules tables ≡ true) where
     pub sound : (n : ℕ) → longEnough tables n ≡ true → Sound (guestAt tables g .extents) (plantAt tables g) n
     sound n long =
         let limit : tables .guests ≤ guestLimit = guests-few in
-        let few : guestAt tables g .extents .count ≤ extentLimit = extents-few _ extents-keep in
+        let few : guestAt tables g .extents .extents ≤ extentLimit = extents-few _ extents-keep in
         record {
           few = few;
           ready = guest-ready tables g (omega arith) few n (extents-ascend _ extents-keep) long;

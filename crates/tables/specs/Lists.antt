@@ -34,7 +34,7 @@ unfoldable pub placeKeeps : Bool → Extent → Bool
 placeKeeps there x = if there then extentRight x else extentBlank x
 
 unfoldable pub listKeeps : Extents → Bool
-listKeeps extents = leb (extents .count) extentLimit && allBelow extentLimit (λ i. placeKeeps (ltb i (extents .count)) (extentAt extents i))
+listKeeps extents = leb (extents .extents) extentLimit && allBelow extentLimit (λ i. placeKeeps (ltb i (extents .extents)) (extentAt extents i))
 
 -- memory of n bytes has all the pages of the run
 unfoldable pub runWithin : ℕ → Extent → Bool

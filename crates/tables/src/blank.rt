@@ -31,8 +31,8 @@ pub(crate) fn extent_blank(x: Extent) -> bool
 fn extents_blank(e: Extents) -> bool
     ensures { λ r. ⌜ r ≡ extentsBlank e ⌝ }
 {
-    let list = e.list;
-    let mut blank = e.count == 0;
+    let list = e.extent;
+    let mut blank = e.extents == 0;
     let mut i = 0;
     while i < EXTENTS {
         blank = blank & extent_blank(list[i]);
@@ -74,8 +74,8 @@ pub(crate) fn tsb_blank(t: Tsb) -> bool
 fn tsbs_blank(tsbs: TsbList) -> bool
     ensures { λ r. ⌜ r ≡ tsbsBlank tsbs ⌝ }
 {
-    let list = tsbs.list;
-    let mut blank = tsbs.count == 0;
+    let list = tsbs.tsb;
+    let mut blank = tsbs.tsbs == 0;
     let mut i = 0;
     while i < TSBS {
         blank = blank & tsb_blank(list[i]);
@@ -87,7 +87,7 @@ fn tsbs_blank(tsbs: TsbList) -> bool
 pub(crate) fn cpu_blank(cpu: Cpu) -> bool
     ensures { λ r. ⌜ r ≡ cpuBlank cpu ⌝ }
 {
-    let queues = cpu.queues;
+    let queues = cpu.queue;
     let ctx0 = cpu.ctx0;
     let ctxnon0 = cpu.ctxnon0;
     queues_blank(queues) & (tsbs_blank(ctx0) & (tsbs_blank(ctxnon0) & (cpu.statistics == 0)))

@@ -70,8 +70,8 @@ fn place_keeps(there: bool, x: Extent) -> bool
 fn list_keeps(e: Extents) -> bool
     ensures { λ r. ⌜ r ≡ listKeeps e ⌝ }
 {
-    let count = e.count as usize;
-    let list = e.list;
+    let count = e.extents as usize;
+    let list = e.extent;
     let mut keep = count <= EXTENTS;
     let mut i = 0;
     while i < EXTENTS {
@@ -84,5 +84,5 @@ fn list_keeps(e: Extents) -> bool
 pub(crate) fn extents_keep(e: Extents) -> bool
     ensures { λ r. ⌜ r ≡ extentsKeep e ⌝ }
 {
-    (1 <= e.count) & (list_keeps(e) & ascend(e))
+    (1 <= e.extents) & (list_keeps(e) & ascend(e))
 }

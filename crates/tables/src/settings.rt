@@ -40,7 +40,7 @@ fn place_right(size: u16, at: u16) -> bool
 }
 
 fn ring_right(e: Extents, ring: Ring) -> bool
-    requires { ⌜ e .count ≤ extentLimit ⌝ }
+    requires { ⌜ e .extents ≤ extentLimit ⌝ }
     ensures { λ r. ⌜ r ≡ ringRight (valid (present e)) ring ⌝ }
 {
     if ring.size % 64 != 0 {
@@ -57,7 +57,7 @@ fn ring_right(e: Extents, ring: Ring) -> bool
 }
 
 fn record_right(e: Extents, held: QueueRecord) -> bool
-    requires { ⌜ e .count ≤ extentLimit ⌝ }
+    requires { ⌜ e .extents ≤ extentLimit ⌝ }
     ensures { λ r. ⌜ r ≡ recordRight (valid (present e)) held ⌝ }
 {
     match held {
@@ -68,7 +68,7 @@ fn record_right(e: Extents, held: QueueRecord) -> bool
 
 // The four queue records of a cpu.
 fn queues_right(e: Extents, queues: [Queue; QUEUES]) -> bool
-    requires { ⌜ e .count ≤ extentLimit ⌝ }
+    requires { ⌜ e .extents ≤ extentLimit ⌝ }
     ensures { λ r. ⌜ r ≡ queuesRight (valid (present e)) queues ⌝ }
 {
     let mut right = true;
@@ -84,7 +84,7 @@ fn queues_right(e: Extents, queues: [Queue; QUEUES]) -> bool
 
 // A place of a TSB list: a descriptor that is there is right, and any other is blank.
 fn tsb_keeps(e: Extents, there: bool, t: Tsb) -> bool
-    requires { ⌜ e .count ≤ extentLimit ⌝ }
+    requires { ⌜ e .extents ≤ extentLimit ⌝ }
     ensures { λ r. ⌜ r ≡ tsbKeeps (valid (present e)) there t ⌝ }
 {
     if there {
@@ -95,11 +95,11 @@ fn tsb_keeps(e: Extents, there: bool, t: Tsb) -> bool
 }
 
 fn tsbs_right(e: Extents, tsbs: TsbList) -> bool
-    requires { ⌜ e .count ≤ extentLimit ⌝ }
+    requires { ⌜ e .extents ≤ extentLimit ⌝ }
     ensures { λ r. ⌜ r ≡ tsbsRight (valid (present e)) tsbs ⌝ }
 {
-    let count = tsbs.count as usize;
-    let list = tsbs.list;
+    let count = tsbs.tsbs as usize;
+    let list = tsbs.tsb;
     let mut keep = count <= TSBS;
     let mut i = 0;
     while i < TSBS {
@@ -110,10 +110,10 @@ fn tsbs_right(e: Extents, tsbs: TsbList) -> bool
 }
 
 fn cpu_right(e: Extents, cpu: Cpu) -> bool
-    requires { ⌜ e .count ≤ extentLimit ⌝ }
+    requires { ⌜ e .extents ≤ extentLimit ⌝ }
     ensures { λ r. ⌜ r ≡ cpuRight (valid (present e)) cpu ⌝ }
 {
-    let queues = cpu.queues;
+    let queues = cpu.queue;
     let ctx0 = cpu.ctx0;
     let ctxnon0 = cpu.ctxnon0;
     let verdict = judge_statistics(e, cpu.statistics);
@@ -121,7 +121,7 @@ fn cpu_right(e: Extents, cpu: Cpu) -> bool
 }
 
 fn cpu_keeps(e: Extents, there: bool, cpu: Cpu) -> bool
-    requires { ⌜ e .count ≤ extentLimit ⌝ }
+    requires { ⌜ e .extents ≤ extentLimit ⌝ }
     ensures { λ r. ⌜ r ≡ cpuKeeps (valid (present e)) there cpu ⌝ }
 {
     if there {
@@ -133,7 +133,7 @@ fn cpu_keeps(e: Extents, there: bool, cpu: Cpu) -> bool
 
 // The places for cpus, of which there are `cpus`.
 fn cpus_keep(e: Extents, cpus: u8, cpu: [Cpu; CPUS]) -> bool
-    requires { ⌜ e .count ≤ extentLimit ⌝ }
+    requires { ⌜ e .extents ≤ extentLimit ⌝ }
     ensures { λ r. ⌜ r ≡ cpusKeep (valid (present e)) cpus cpu ⌝ }
 {
     let count = cpus as usize;
@@ -171,7 +171,7 @@ fn sources_keep(cpus: u8, major: u8, sources: u8, source: [Source; SOURCES]) -> 
 }
 
 pub(crate) fn plant_keeps(e: Extents, plant: Plant) -> bool
-    requires { ⌜ e .count ≤ extentLimit ⌝ }
+    requires { ⌜ e .extents ≤ extentLimit ⌝ }
     ensures { λ r. ⌜ r ≡ plantKeeps (valid (present e)) plant ⌝ }
 {
     let versions = plant.versions;

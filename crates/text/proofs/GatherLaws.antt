@@ -97,7 +97,7 @@ module _ (s : List ℕ) (end : ℕ) (list : List ℕ) (count at : ℕ) (g : Gath
           go none = refl
           go (some ms) = rw append-assoc
 
-  pub gather-end : length s ≤ at → count ≤ 9 → record { right = true; count = count; list = list } ≡ fieldsOr (fields (behind (drop end s)))
+  pub gather-end : length s ≤ at → count ≤ 9 → record { right = true; numbers = count; number = list } ≡ fieldsOr (fields (behind (drop end s)))
   unfolding fieldsOr behind fields
   gather-end l k =
       let w : fields (behind (drop end s)) ≡ some (g .ns) = sym (g .whole) ∙ rw (drop-of-length-le s l, append-nil) in

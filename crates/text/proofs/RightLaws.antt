@@ -49,10 +49,10 @@ module _ (ns : List ℕ) where
       rw (q, getD-append-add ns, getD-drop) (zero-at 9 (length ns + (k - length ns)))
 
   module _ (f : Fields) (e : f ≡ fieldsOf ns) where
-    right-held : (f .count ≤ length (f .list)) × ZeroFrom (f .count) (f .list)
+    right-held : (f .numbers ≤ length (f .number)) × ZeroFrom (f .numbers) (f .number)
     right-held = rw e (rw length-append (omega arith), zeros-behind)
 
-    right-first : take (f .count) (f .list) ≡ ns
+    right-first : take (f .numbers) (f .number) ≡ ns
     right-first = rw (e, take-append-seam)
 
 module _ (o : Option (List ℕ)) (f : Fields) (e : f ≡ fieldsOr o) where
@@ -81,10 +81,10 @@ module _ (o : Option (List ℕ)) (f : Fields) (e : f ≡ fieldsOr o) where
       go (some ns) q = pick ns (leb (length ns) 9) refl q
 
   module _ (h : not (f .right) ≡ false) where
-    pub event-held : (f .count ≤ length (f .list)) × ZeroFrom (f .count) (f .list)
+    pub event-held : (f .numbers ≤ length (f .number)) × ZeroFrom (f .numbers) (f .number)
     event-held = let g : Right o f = right-told h in right-held (g .ns) f (g .held)
 
-    pub event-good : (word : List ℕ) (r : Told) → r ≡ told (eventLine word (take (f .count) (f .list))) → r ≡ told (eventOr word o)
+    pub event-good : (word : List ℕ) (r : Told) → r ≡ told (eventLine word (take (f .numbers) (f .number))) → r ≡ told (eventOr word o)
     event-good word r q =
         let g : Right o f = right-told h in
         q ∙ ap (λ (l : List ℕ). told (eventLine word l)) (right-first (g .ns) f (g .held)) ∙ sym (ap (λ (p : Option (List ℕ)). told (eventOr word p)) (g .read))

@@ -10,10 +10,10 @@ use Rattle.rules.specs.Rulings.{if_then_else_}
 use Rattle.text.specs.declared.fields.Fields.{Fields}
 
 unfoldable pub noFields : Fields
-noFields = record { right = false; count = 0; list = replicate 9 0 }
+noFields = record { right = false; numbers = 0; number = replicate 9 0 }
 
 abbrev pub fieldsOf : List ℕ → Fields
-fieldsOf ns = record { right = true; count = length ns; list = ns ++ drop (length ns) (replicate 9 0) }
+fieldsOf ns = record { right = true; numbers = length ns; number = ns ++ drop (length ns) (replicate 9 0) }
 
 -- no event has more than nine
 unfoldable pub fieldsOr : Option (List ℕ) → Fields

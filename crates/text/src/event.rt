@@ -104,6 +104,6 @@ pub(crate) fn event_line(s: &[u8], end: usize) -> Line
     if !read.right {
         return Line::Bad;
     }
-    let list = read.list;
-    event_of(&s[..end], read.count, list)
+    let list = read.number;
+    event_of(&s[..end], read.numbers, list)
 }

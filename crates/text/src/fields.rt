@@ -15,8 +15,8 @@ pub const FIELDS: usize = 9;
 // count numbers, with zeros behind them. right is false where a field is no number, or there are more than FIELDS.
 pub struct Fields {
     pub right: bool,
-    pub count: usize,
-    pub list: [u64; FIELDS],
+    pub numbers: usize,
+    pub number: [u64; FIELDS],
 }
 
 fn no_fields() -> Fields
@@ -24,8 +24,8 @@ fn no_fields() -> Fields
 {
     Fields {
         right: false,
-        count: 0,
-        list: [0; FIELDS],
+        numbers: 0,
+        number: [0; FIELDS],
     }
 }
 
@@ -53,7 +53,7 @@ pub(crate) fn read_fields(s: &[u8], end: usize) -> Fields
     }
     Fields {
         right: true,
-        count,
-        list,
+        numbers: count,
+        number: list,
     }
 }

@@ -28,7 +28,7 @@ const SCRUB: u64 = 32768;
 
 // What scrub and sync ask of a range.
 fn judge_pages(extents: Extents, address: u64, size: u64) -> Verdict
-    requires { ⌜ extents .count ≤ extentLimit ⌝ }
+    requires { ⌜ extents .extents ≤ extentLimit ⌝ }
     ensures { λ r. ⌜ ((rest : Ruling Outcome) → wholePages (valid (present extents)) address size rest ≡ judged r rest) ⌝ }
 {
     if size == 0 {
@@ -48,7 +48,7 @@ fn judge_pages(extents: Extents, address: u64, size: u64) -> Verdict
 
 // What store and load ask of an address.
 fn judge_word(extents: Extents, address: u64) -> Verdict
-    requires { ⌜ extents .count ≤ extentLimit ⌝ }
+    requires { ⌜ extents .extents ≤ extentLimit ⌝ }
     ensures { λ r. ⌜ ((rest : Ruling Outcome) → wholeWord (valid (present extents)) address rest ≡ judged r rest) ⌝ }
 {
     if address % 8 != 0 {
@@ -69,7 +69,7 @@ fn scrubbed(size: u64) -> u64
 
 // 0x31: the first bytes of a range of pages become 0.
 pub fn mem_scrub(extents: Extents, mem: &mut [u8], address: u64, size: u64) -> Done
-    requires { ⌜ extents .count ≤ extentLimit ⌝ }
+    requires { ⌜ extents .extents ≤ extentLimit ⌝ }
     requires { ⌜ Ready (present extents) (length (now mem)) ⌝ }
     ensures { λ r. ⌜ ((plant : PlantRecord) →
         Follows extents plant (mem-scrub (valid (present extents)) plant address size)
@@ -88,7 +88,7 @@ pub fn mem_scrub(extents: Extents, mem: &mut [u8], address: u64, size: u64) -> D
 
 // 0x32: nothing is kept back, so all of a range of pages is there at once.
 pub fn mem_sync(extents: Extents, address: u64, size: u64) -> Done
-    requires { ⌜ extents .count ≤ extentLimit ⌝ }
+    requires { ⌜ extents .extents ≤ extentLimit ⌝ }
     ensures { λ r. ⌜ ((plant : PlantRecord) → quietly plant r ≡ outcomeOf plant (mem-sync (valid (present extents)) plant address size)) ⌝ }
 {
     let verdict = judge_pages(extents, address, size);
@@ -100,7 +100,7 @@ pub fn mem_sync(extents: Extents, address: u64, size: u64) -> Done
 
 // A store of one word.
 pub fn store_word(extents: Extents, mem: &mut [u8], address: u64, value: u64) -> Done
-    requires { ⌜ extents .count ≤ extentLimit ⌝ }
+    requires { ⌜ extents .extents ≤ extentLimit ⌝ }
     requires { ⌜ Ready (present extents) (length (now mem)) ⌝ }
     ensures { λ r. ⌜ ((plant : PlantRecord) →
         Follows extents plant (store-word (valid (present extents)) plant address value)
@@ -119,7 +119,7 @@ pub fn store_word(extents: Extents, mem: &mut [u8], address: u64, value: u64) ->
 
 // A load of one word.
 pub fn load_word(extents: Extents, mem: &[u8], address: u64) -> Done
-    requires { ⌜ extents .count ≤ extentLimit ⌝ }
+    requires { ⌜ extents .extents ≤ extentLimit ⌝ }
     requires { ⌜ Ready (present extents) (length (now mem)) ⌝ }
     ensures { λ r. ⌜ ((plant : PlantRecord) →
         Follows extents plant (load-word (sightOf (present extents) (now (mem .entry))) plant address)

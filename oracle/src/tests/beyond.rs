@@ -1,5 +1,5 @@
 //! What a session cannot show, over longer memory: docs/session/beyond.txt, as
-//! the program `beyond` runs it. Of what is tried on tables that were changed
+//! the program `test_beyond` runs it. Of what is tried on tables that were changed
 //! by hand, only whether it is 101 is compared: the model has no such tables.
 
 use super::draft::Draft;
@@ -27,8 +27,8 @@ enum Answer {
 
 #[test]
 fn what_a_session_cannot_show() {
-    let lines = include_str!("../../../crates/beyond/stdin").lines();
-    let answers = include_str!("../../../crates/beyond/stdout").lines();
+    let lines = include_str!("../../../crates/test_beyond/stdin").lines();
+    let answers = include_str!("../../../crates/test_beyond/stdout").lines();
     assert_eq!(lines.clone().count(), answers.clone().count());
     let mut bench = Bench {
         host: Host::new(),

@@ -1,4 +1,4 @@
--- `mondo::names_caller` meets its contract: the invariant is that none of the first i entries does.
+-- `mondo::names_caller` meets its contract: the invariant is that none of the first i listed cpus does.
 use native.Mathlib.Omega.{arith}
 use borrow.Author.Needs.{needs}
 use mathlib.Core.Path.{_≡_}

@@ -1,4 +1,4 @@
--- `mondo::names_cpus` meets its contract: the invariant is that each of the first i entries is.
+-- `mondo::names_cpus` meets its contract: the invariant is that each of the first i listed cpus is.
 use native.Mathlib.Omega.{arith}
 use borrow.Author.Needs.{needs}
 use mathlib.Core.Path.{_≡_}

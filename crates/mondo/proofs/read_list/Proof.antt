@@ -1,10 +1,10 @@
--- `mondo::read_list` meets its contract: the invariant is that the first i entries are read.
+-- `mondo::read_list` meets its contract: the invariant is that the first i listed cpus are read.
 use native.Mathlib.Omega.{arith}
 use mathlib.Core.Path.{_≡_, refl}
 use Prim.Native.Nat.{_≤_, _-_, _*_}
 use lib.ListN.{length, take, length-set}
 use Rattle.rules.specs.Real.{byteAt}
-use Rattle.rules.specs.Mondo.{entries}
+use Rattle.rules.specs.Mondo.{listedCpus}
 use Rattle.memory.specs.Ready.{present}
 use Rattle.memory.proofs.Places.{valid-part}
 use Rattle.mondo.proofs.MondoLaws.{read-none, read-more}
@@ -13,7 +13,7 @@ use Rattle.mondo.proofs.read_list.Statement.{statement}
 use Rattle.mondo.proofs.read_list.Tie as tie
 
 abbrev Inv-loop : tie.InvT-loop
-Inv-loop extents mem list count cpus₀ i₀ cpus i = (i ≤ count) × (length cpus ≡ 64) × (take i cpus ≡ entries (byteAt (present extents) mem) list i)
+Inv-loop extents mem list count cpus₀ i₀ cpus i = (i ≤ count) × (length cpus ≡ 64) × (take i cpus ≡ listedCpus (byteAt (present extents) mem) list i)
 
 abbrev μ-loop : tie.MeasureT-loop
 μ-loop extents mem list count cpus₀ i₀ cpus i = count - i

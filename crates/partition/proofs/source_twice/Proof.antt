@@ -1,12 +1,12 @@
 -- `partition::source_twice` meets its contract: none of the pairs passed is joined.
 use mathlib.Core.Bool.{false}
-use mathlib.Core.Path.{_≡_, refl}
+use mathlib.Core.Path.{_≡_, refl, _∙_}
 use Prim.Native.Nat.{_-_, _≤_}
 use native.Mathlib.Omega.{arith}
 use borrow.Author.Needs.{needs}
-use Rattle.rules.specs.Image.{twins, sourceTwice}
 use Rattle.rules.proofs.Scan.{some-start, some-next}
 use Rattle.partition.specs.Collected.{nameLimit, noName, nameAt, alike, namesOf}
+use Rattle.partition.proofs.NameLaws.{twice-is}
 use Rattle.partition.proofs.Pairs.{joinedTo, joined, joined-next, none-joined, two-joined}
 use Rattle.partition.proofs.source_twice.Statement.{statement}
 use Rattle.partition.proofs.source_twice.Tie as tie
@@ -66,14 +66,15 @@ pairs-again : tie.Need-pairs-again Inv-loop μ-loop Inv-pairs μ-pairs
 pairs-again c = (omega arith, (search needs, joined-next noName alike (c .before .before .before .before .names .result) _ _ (c .before .before .before .pairs .inv .1 .1) (c .before .loop .inv .1 .1) (omega arith) (omega arith)))
 
 returns : tie.Need-returns Inv-loop μ-loop Inv-pairs μ-pairs
-unfolding twins sourceTwice alike namesOf
+unfolding namesOf
 returns c = let s = c .before .before .before in
     none-joined noName alike (nameAt (s .args .t)) nameLimit _ (c .before .before .names .ensures) _ _ (c .before .pairs .inv .1 .0) (c .before .pairs .inv .1 .1) (omega arith) (omega arith)
+    ∙ twice-is (s .args .t)
 
 returns-2 : tie.Need-returns-2 Inv-loop μ-loop Inv-pairs μ-pairs
-unfolding twins sourceTwice alike namesOf
+unfolding namesOf
 returns-2 c = let s = c .before .before .before .before .before .before .before .before .before in
-    search (two-joined noName alike (nameAt (s .args .t)) nameLimit)
+    search (two-joined noName alike (nameAt (s .args .t)) nameLimit) ∙ twice-is (s .args .t)
 
 pub source-twice-spec : {M : Type 1} → statement M
 source-twice-spec =

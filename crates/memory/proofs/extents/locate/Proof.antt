@@ -31,7 +31,7 @@ through-requires : tie.Need-through-requires Inv-loop μ-loop
 through-requires c κs =
     let l = c .before .before .before .before in
     let a = l .before .before .before .args in
-    starts-in (a .e .list) (a .real .0) (a .len) (l .loop .i) _ (c .before .inside .ensures) (c .if1 .taken)
+    starts-in (a .e .extent) (a .real .0) (a .len) (l .loop .i) _ (c .before .inside .ensures) (c .if1 .taken)
 
 returns : tie.Need-returns Inv-loop μ-loop
 returns c = search (located-found, array-long)

@@ -26,7 +26,7 @@ tsbs-requires c κs = search needs
 
 loop-holds : tie.Need-loop-holds Inv-loop μ-loop
 loop-holds c =
-    let e = ap (λ (t : TsbList). t .list) (c .before .tsbs .ensures) in
+    let e = ap (λ (t : TsbList). t .tsb) (c .before .tsbs .ensures) in
     (omega arith, ap length e, listed-none _ _ ∙ ap granted (sym e))
 
 cast-at : tie.Need-cast-at Inv-loop μ-loop

@@ -5,27 +5,27 @@ use mathlib.Core.Path.{_≡_, refl, sym, _∙_}
 use mathlib.Core.List.{[]}
 use Prim.Native.Nat.{_-_}
 use lib.ListN.{length, take, length-map}
-use Rattle.host.specs.Seats.{entryOf}
-use Rattle.host.proofs.EntryLaws.{right-keeps}
+use Rattle.host.specs.Seats.{doorOf}
+use Rattle.host.proofs.DoorLaws.{right-keeps}
 use Rattle.session.proofs.FeedLaws.{at as start, Room, Feeding, feeding-start, room-start, line-taken, turn-push, turn-drop, turn-reply, turns-done, feeds-as}
-use Rattle.session.proofs.Answers.{answers-bad, answers-loaded, answers-refused, guest-fine, next-changed, next-same, answers-guest, memory-same, entry-same, asked-as}
+use Rattle.session.proofs.Answers.{answers-bad, answers-loaded, answers-refused, guest-fine, next-changed, next-same, answers-guest, memory-same, door-same, asked-as}
 use Rattle.session.proofs.feeder.feed.Statement.{statement}
 use Rattle.session.proofs.feeder.feed.Tie as tie
 
 abbrev Inv-loop : tie.InvT-loop
-Inv-loop mem₀ piece out₀ tables₀ line₀ held₀ entry₀ n at₀ i₀ mem out tables line held entry at i =
+Inv-loop mem₀ piece out₀ tables₀ line₀ held₀ entry₀ n at₀ i₀ mem out tables line held door at i =
     Room piece out₀ mem₀ n mem out line held at i
-    × (entry ≡ entryOf tables (length mem))
+    × (door ≡ doorOf tables (length mem))
     × Feeding (start tables₀ mem₀ line₀ held₀ []) (take n piece) out₀ tables mem line held at i out
 
 abbrev μ-loop : tie.MeasureT-loop
-μ-loop mem₀ piece out₀ tables₀ line₀ held₀ entry₀ n at₀ i₀ mem out tables line held entry at i = n - i
+μ-loop mem₀ piece out₀ tables₀ line₀ held₀ entry₀ n at₀ i₀ mem out tables line held door at i = n - i
 
 least-requires : tie.Need-least-requires Inv-loop μ-loop
 least-requires c κs = search needs
 
-entry-of-requires : tie.Need-entry-of-requires Inv-loop μ-loop
-entry-of-requires c κs = search needs
+door-of-requires : tie.Need-door-of-requires Inv-loop μ-loop
+door-of-requires c κs = search needs
 
 least-requires-2 : tie.Need-least-requires-2 Inv-loop μ-loop
 least-requires-2 c κs = search needs
@@ -33,7 +33,7 @@ least-requires-2 c κs = search needs
 loop-holds : tie.Need-loop-holds Inv-loop μ-loop
 loop-holds c = (
   room-start _ _ _ _ _ _ _ (c .least2 .ensures) (c .before .before .least .ensures) (simp length-map at (c .before .before .before .before .before .before .before .before .good .0 .1 .1 .1 .0 .1 .0 .1)),
-  c .before .entry-of .ensures,
+  c .before .door-of .ensures,
   feeding-start _ _ _ _ _ _,
 )
 
@@ -92,8 +92,8 @@ slice-aggregate-load-line c = let l = c .before .before .before .before .before 
 load-line-requires : tie.Need-load-line-requires Inv-loop μ-loop
 load-line-requires c κs = search needs
 
-entry-of-requires-2 : tie.Need-entry-of-requires-2 Inv-loop μ-loop
-entry-of-requires-2 c κs = search needs
+door-of-requires-2 : tie.Need-door-of-requires-2 Inv-loop μ-loop
+door-of-requires-2 c κs = search needs
 
 put-reply-requires-2 : tie.Need-put-reply-requires-2 Inv-loop μ-loop
 put-reply-requires-2 c κs = search needs
@@ -178,7 +178,7 @@ loop-again-4 c = let l = c .before .before .before .before .before .before .befo
     let w = turn-reply _ _ _ _ _ _ _ _ _ _ _ _ (l .inv .0) (l .inv .2) (c .before .before .before .before .before .before .before .before .before .before .before .before .before .before .loop-test .taken) _ refl (c .before .before .before .before .before .before .before .before .before .before .before .before .if1 .left) _ _ _ refl
     (answers-loaded _ _ _ _ _ (sym (c .before .before .before .before .before .before .before .before .enum-told2 .given .1) ∙ c .before .before .before .before .before .before .before .before .before .before .ask .ensures) (c .before .before .before .before .before .before .load-line .ensures))
     _ _ (c .before .before .put-reply2 .ensures) in
-    (w .0, c .before .before .before .before .entry-of2 .ensures, w .1)
+    (w .0, c .before .before .before .before .door-of2 .ensures, w .1)
 
 loop-less-5 : tie.Need-loop-less-5 Inv-loop μ-loop
 loop-less-5 c = omega arith
@@ -204,7 +204,7 @@ loop-again-6 c = let g = c .before .before .before .before .before .before .befo
     (memory-same _ (l .mem) (take (l .held) (l .line)) _ _ s (d .result) _ (d .ensures) _ n)
     (answers-guest _ (l .mem) (take (l .held) (l .line)) _ _ s (d .result) _ (d .ensures) _ n)
     _ _ (c .before .before .before .before .before .before .before .put-reply4 .ensures) in
-    (w .0, l .inv .1 ∙ sym (entry-same _ (l .mem) (take (l .held) (l .line)) _ _ s (d .result) _ (d .ensures) _ n), w .1)
+    (w .0, l .inv .1 ∙ sym (door-same _ (l .mem) (take (l .held) (l .line)) _ _ s (d .result) _ (d .ensures) _ n), w .1)
 
 loop-less-7 : tie.Need-loop-less-7 Inv-loop μ-loop
 loop-less-7 c = omega arith
@@ -220,7 +220,7 @@ loop-again-7 c = let g = c .before .before .before .before .before .before .befo
     (memory-same _ (l .mem) (take (l .held) (l .line)) _ _ s (d .result) _ (d .ensures) _ n)
     (answers-guest _ (l .mem) (take (l .held) (l .line)) _ _ s (d .result) _ (d .ensures) _ n)
     _ _ (c .before .before .before .before .put-reply4 .ensures) in
-    (w .0, l .inv .1 ∙ sym (entry-same _ (l .mem) (take (l .held) (l .line)) _ _ s (d .result) _ (d .ensures) _ n), w .1)
+    (w .0, l .inv .1 ∙ sym (door-same _ (l .mem) (take (l .held) (l .line)) _ _ s (d .result) _ (d .ensures) _ n), w .1)
 
 same-length : tie.Need-same-length Inv-loop μ-loop
 same-length c = search needs
@@ -240,7 +240,7 @@ feed-spec =
     Inv-loop
     μ-loop
     least-requires
-    entry-of-requires
+    door-of-requires
     least-requires-2
     loop-holds
     shared-slice-read-b
@@ -260,7 +260,7 @@ feed-spec =
     array-share-prefix-line-2
     slice-aggregate-load-line
     load-line-requires
-    entry-of-requires-2
+    door-of-requires-2
     put-reply-requires-2
     enum-known-r
     put-reply-requires-3

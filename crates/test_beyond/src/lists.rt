@@ -18,8 +18,8 @@ fn say_tsb(t: Tsb, end: &[u8]) {
 
 // The count and all four places, each with its fields in the order of the descriptor.
 fn show_list(list: TsbList) {
-    say_number(list.count as u64, b", ");
-    let places = list.list;
+    say_number(list.tsbs as u64, b", ");
+    let places = list.tsb;
     say_tsb(places[0], b", ");
     say_tsb(places[1], b", ");
     say_tsb(places[2], b", ");

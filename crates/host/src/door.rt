@@ -1,4 +1,4 @@
-// "Before anything": whether an event is refused at the entry, and if not, which guest answers it.
+// "Before anything": whether an event is refused at the door, and if not, which guest answers it.
 use crate::owner::owner_of;
 use records::Verdict;
 use rules::Event;
@@ -9,7 +9,7 @@ ghost use mathlib.Core.Path.{_≡_};
 ghost use mathlib.Core.Bool.{true};
 ghost use Rattle.rules.specs.Tables.{keepRules};
 ghost use Rattle.records.specs.Verdict.{isRight};
-ghost use Rattle.host.specs.Seats.{entryOf, seatFor, seatOf};
+ghost use Rattle.host.specs.Seats.{doorOf, seatFor, seatOf};
 
 // Where an event is answered: nowhere, or at a guest that is there.
 pub enum Seat {
@@ -18,8 +18,8 @@ pub enum Seat {
 }
 
 // 101, then 102, for memory of len bytes.
-pub fn entry_of(tables: Tables, len: usize) -> Verdict
-    ensures { λ r. ⌜ r ≡ entryOf tables len ⌝ }
+pub fn door_of(tables: Tables, len: usize) -> Verdict
+    ensures { λ r. ⌜ r ≡ doorOf tables len ⌝ }
 {
     if !tables::keep_rules(tables) {
         return Verdict::Refused(Refusal::BadTables);
@@ -45,12 +45,12 @@ fn seat_for(guests: u8, owner: Owner) -> Seat
     }
 }
 
-// The seat of an event, where the entry to these tables came to `entry`.
-pub fn seat_of(tables: Tables, entry: Verdict, event: Event) -> Seat
-    requires { ⌜ (isRight entry ≡ true → keepRules tables ≡ true) ⌝ }
-    ensures { λ r. ⌜ r ≡ seatOf tables entry event ⌝ }
+// The seat of an event, where the door came to `door`.
+pub fn seat_of(tables: Tables, door: Verdict, event: Event) -> Seat
+    requires { ⌜ (isRight door ≡ true → keepRules tables ≡ true) ⌝ }
+    ensures { λ r. ⌜ r ≡ seatOf tables door event ⌝ }
 {
-    match entry {
+    match door {
         Verdict::Refused(r) => Seat::Refused(r),
         Verdict::Right => seat_for(tables.guests, owner_of(tables, event)),
     }

@@ -5,8 +5,8 @@ use Prim.Native.Nat.{_-_}
 use lib.ListN.{length}
 use native.Mathlib.Omega.{arith}
 use borrow.Author.Needs.{needs}
-use Rattle.beyond.proofs.run_all.Statement.{statement}
-use Rattle.beyond.proofs.run_all.Tie as tie
+use Rattle.test_beyond.proofs.run_all.Statement.{statement}
+use Rattle.test_beyond.proofs.run_all.Tie as tie
 
 abbrev Inv-loop : tie.InvT-loop
 Inv-loop mem₀ input bench₀ at₀ mem bench at = length mem ≡ length mem₀

@@ -1,8 +1,8 @@
--- `host::entry::seat_for` meets its contract: a case of the owner each.
+-- `host::door::seat_for` meets its contract: a case of the owner each.
 use borrow.Author.Needs.{needs}
-use Rattle.host.proofs.EntryLaws.{no-source, no-guest, guest-there}
-use Rattle.host.proofs.entry.seat_for.Statement.{statement}
-use Rattle.host.proofs.entry.seat_for.Tie as tie
+use Rattle.host.proofs.DoorLaws.{no-source, no-guest, guest-there}
+use Rattle.host.proofs.door.seat_for.Statement.{statement}
+use Rattle.host.proofs.door.seat_for.Tie as tie
 
 enum-told : tie.Need-enum-told
 enum-told c = search needs

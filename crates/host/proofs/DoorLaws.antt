@@ -29,9 +29,9 @@ use Rattle.plants.specs.declared.change.Done.{Done}
 use Rattle.plants.specs.Changes.{plantAfter}
 use Rattle.plants.specs.Follows.{Follows}
 use Rattle.host.specs.declared.Settled.{Settled}
-use Rattle.host.specs.declared.entry.Seat.{Seat}
+use Rattle.host.specs.declared.door.Seat.{Seat}
 use Rattle.host.specs.Owners.{Counted}
-use Rattle.host.specs.Seats.{entryOf, seatFor, seatOf}
+use Rattle.host.specs.Seats.{doorOf, seatFor, seatOf}
 use Rattle.host.specs.Settles.{Settles}
 
 -- tables that keep the rules have no more guests and sources than there are places
@@ -44,20 +44,20 @@ not-guest r g e = let z : _≡_ {A = ℕ} 0 1 = cc in absurd (omega arith)
 same-guest : (h g : ℕ) → Seat.Guest h ≡ Seat.Guest g → h ≡ g
 same-guest h g e = cc
 
--- the entry, at each return
+-- the door, at each return
 module _ (tables : Tables) (n : ℕ) (t : Bool) (p : t ≡ keepRules tables) where
-  pub bad-tables : not t ≡ true → Verdict.Refused BadTables ≡ entryOf tables n
-  unfolding entryOf
+  pub bad-tables : not t ≡ true → Verdict.Refused BadTables ≡ doorOf tables n
+  unfolding doorOf
   bad-tables h = rw (← p, not-true t h)
 
   module _ (h : not t ≡ false) (u : Bool) (q : u ≡ longEnough tables n) where
-    pub short-memory : not u ≡ true → Verdict.Refused ShortMemory ≡ entryOf tables n
-    unfolding entryOf
+    pub short-memory : not u ≡ true → Verdict.Refused ShortMemory ≡ doorOf tables n
+    unfolding doorOf
     short-memory k = rw (← p, not-false t h, ← q, not-true u k)
 
-    pub entry-right : not u ≡ false → Verdict.Right ≡ entryOf tables n
-    unfolding entryOf
-    entry-right k = rw (← p, not-false t h, ← q, not-false u k)
+    pub door-right : not u ≡ false → Verdict.Right ≡ doorOf tables n
+    unfolding doorOf
+    door-right k = rw (← p, not-false t h, ← q, not-false u k)
 
 -- the seat, at each return
 module _ (guests : ℕ) (o : Owner) where
@@ -82,19 +82,19 @@ pub seat-owned : (tables : Tables) (e : Verdict) (event : Event) (o : Owner) (s 
 unfolding seatOf
 seat-owned tables e event o s p q r = rw (p, ← q) r
 
--- What the entry and the seat tell of the tables, and of memory of n bytes.
+-- What the door and the seat tell of the tables, and of memory of n bytes.
 module _ (tables : Tables) (n : ℕ) where
   -- the tables keep the rules, and the memory is long enough
-  pub entry-tells : isRight (entryOf tables n) ≡ true → (keepRules tables ≡ true) × (longEnough tables n ≡ true)
-  unfolding entryOf
-  entry-tells = go (keepRules tables) (longEnough tables n)
+  pub door-tells : isRight (doorOf tables n) ≡ true → (keepRules tables ≡ true) × (longEnough tables n ≡ true)
+  unfolding doorOf
+  door-tells = go (keepRules tables) (longEnough tables n)
     where
       go : (k l : Bool) → isRight (if k then if l then Verdict.Right else Verdict.Refused ShortMemory else Verdict.Refused BadTables) ≡ true → (k ≡ true) × (l ≡ true)
       go true true h = (refl, refl)
       go true false h = absurd (false≢true h)
       go false l h = absurd (false≢true h)
 
-  -- a seat at a guest tells that the entry was right and the guest is there
+  -- a seat at a guest tells that the door was right and the guest is there
   pub seat-told : (event : Event) (e : Verdict) (g : ℕ) → seatOf tables e event ≡ Seat.Guest g → (isRight e ≡ true) × (g < tables .guests)
   unfolding seatOf seatFor
   seat-told event (Verdict.Refused r) g s = absurd (not-guest r g s)
@@ -108,18 +108,18 @@ module _ (tables : Tables) (n : ℕ) where
       seat-there Owner.Nobody g s = absurd (not-guest NoSource g s)
       seat-there (Owner.Guest h) g s = there h g (ltb h (tables .guests)) refl s
 
-  pub seat-sound : (event : Event) (g : ℕ) → seatOf tables (entryOf tables n) event ≡ Seat.Guest g → (g < guestLimit) × Sound (guestAt tables g .extents) (plantAt tables g) n
+  pub seat-sound : (event : Event) (g : ℕ) → seatOf tables (doorOf tables n) event ≡ Seat.Guest g → (g < guestLimit) × Sound (guestAt tables g .extents) (plantAt tables g) n
   seat-sound event g s =
-      let told = seat-told event (entryOf tables n) g s in
-      let right = entry-tells (told .0) in
+      let told = seat-told event (doorOf tables n) g s in
+      let right = door-tells (told .0) in
       let limit : tables .guests ≤ guestLimit = guests-few tables (right .0) in
       let there : g < tables .guests = told .1 in
       (omega arith, sound tables (right .0) g there n (right .1))
 
 -- What they tell of the event.
 module _ (tables : Tables) (m : List ℕ) (event : Event) where
-  abbrev pub entry : Verdict
-  entry = entryOf tables (length m)
+  abbrev pub door : Verdict
+  door = doorOf tables (length m)
 
   -- what the plant of guest g comes to, put back
   abbrev pub guestOutcome : ℕ → HostOutcome
@@ -138,40 +138,40 @@ module _ (tables : Tables) (m : List ℕ) (event : Event) where
   owner-ruled Owner.Nobody = refl
   owner-ruled (Owner.Guest g) = guest-ruled g (ltb g (tables .guests)) refl
 
-  entry-ruled : (k l : Bool) → (k or-refuse BadTables then l or-refuse ShortMemory then answeredBy tables m event (ownerOf tables event))
+  door-ruled : (k l : Bool) → (k or-refuse BadTables then l or-refuse ShortMemory then answeredBy tables m event (ownerOf tables event))
       ≡ ruled (seatOf tables (if k then if l then Verdict.Right else Verdict.Refused ShortMemory else Verdict.Refused BadTables) event)
   unfolding seatOf
-  entry-ruled true true = owner-ruled (ownerOf tables event)
-  entry-ruled true false = refl
-  entry-ruled false l = refl
+  door-ruled true true = owner-ruled (ownerOf tables event)
+  door-ruled true false = refl
+  door-ruled false l = refl
 
-  seat-ruled : hostRule tables m event ≡ ruled (seatOf tables entry event)
-  unfolding hostRule entryOf
-  seat-ruled = entry-ruled (keepRules tables) (longEnough tables (length m))
+  seat-ruled : hostRule tables m event ≡ ruled (seatOf tables door event)
+  unfolding hostRule doorOf
+  seat-ruled = door-ruled (keepRules tables) (longEnough tables (length m))
 
   -- an event that is refused at its seat changes nothing
-  pub seat-refuses : (r : Refusal) → seatOf tables entry event ≡ Seat.Refused r → hostEvent tables m event ≡ record { answer = Refused r; tables = tables; memory = m }
+  pub seat-refuses : (r : Refusal) → seatOf tables door event ≡ Seat.Refused r → hostEvent tables m event ≡ record { answer = Refused r; tables = tables; memory = m }
   unfolding hostEvent
   seat-refuses r s = rw (seat-ruled, s)
 
-  pub seat-answers : (g : ℕ) → seatOf tables entry event ≡ Seat.Guest g → hostEvent tables m event ≡ guestOutcome g
+  pub seat-answers : (g : ℕ) → seatOf tables door event ≡ Seat.Guest g → hostEvent tables m event ≡ guestOutcome g
   unfolding hostEvent
   seat-answers g s = rw (seat-ruled, s)
 
   -- the owner's plant answered
-  pub seat-follows : (g : ℕ) (d : Done) (after : List ℕ) → seatOf tables entry event ≡ Seat.Guest g
+  pub seat-follows : (g : ℕ) (d : Done) (after : List ℕ) → seatOf tables door event ≡ Seat.Guest g
       → Follows (guestAt tables g .extents) (plantAt tables g) (plantRule (sightOf (extentsOf tables g) m) (plantAt tables g) event) m d after
       → hostEvent tables m event ≡ record { answer = d .answer; tables = withPlant tables g (plantAfter (plantAt tables g) d); memory = after }
   seat-follows g d after s f =
       seat-answers g s ∙ (λ i. record { answer = sym (f .answer) i; tables = withPlant tables g (sym (f .plant) i); memory = sym (f .memory) i })
 
--- The same, as the code holds it: e is the entry and x the seat.
-module _ (tables : Tables) (n : ℕ) (e : Verdict) (p : e ≡ entryOf tables n) where
+-- The same, as the code holds it: e is the door and x the seat.
+module _ (tables : Tables) (n : ℕ) (e : Verdict) (p : e ≡ doorOf tables n) where
   pub right-keeps : isRight e ≡ true → keepRules tables ≡ true
-  right-keeps h = entry-tells tables n (ap isRight (sym p) ∙ h) .0
+  right-keeps h = door-tells tables n (ap isRight (sym p) ∙ h) .0
 
   module _ (event : Event) (x : Seat) (q : x ≡ seatOf tables e event) where
-    seat-is : x ≡ seatOf tables (entryOf tables n) event
+    seat-is : x ≡ seatOf tables (doorOf tables n) event
     seat-is = q ∙ ap (λ (v : Verdict). seatOf tables v event) p
 
     module _ (g : ℕ) (h : x ≡ Seat.Guest g) where
@@ -181,7 +181,7 @@ module _ (tables : Tables) (n : ℕ) (e : Verdict) (p : e ≡ entryOf tables n) 
       pub guest-sound : Sound (guestAt tables g .extents) (plantAt tables g) n
       guest-sound = seat-sound tables n event g (sym seat-is ∙ h) .1
 
-module _ (tables : Tables) (m : List ℕ) (e : Verdict) (p : e ≡ entryOf tables (length m)) (event : Event) (x : Seat) (q : x ≡ seatOf tables e event) (s : Settled) where
+module _ (tables : Tables) (m : List ℕ) (e : Verdict) (p : e ≡ doorOf tables (length m)) (event : Event) (x : Seat) (q : x ≡ seatOf tables e event) (s : Settled) where
   pub settles-refused : (r : Refusal) → x ≡ Seat.Refused r → s ≡ record { answer = Refused r; tables = tables } → Settles (hostEvent tables m event) s m
   settles-refused r h f = rw (seat-refuses tables m event r (sym (seat-is tables (length m) e p event x q) ∙ h), f) (record { answer = refl; tables = refl; memory = refl })
 

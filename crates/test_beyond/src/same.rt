@@ -20,9 +20,9 @@ fn same_extent(a: Extent, b: Extent) -> bool {
 }
 
 fn same_extents(a: Extents, b: Extents) -> bool {
-    let p = a.list;
-    let q = b.list;
-    (a.count == b.count)
+    let p = a.extent;
+    let q = b.extent;
+    (a.extents == b.extents)
         & same_extent(p[0], q[0])
         & same_extent(p[1], q[1])
         & same_extent(p[2], q[2])
@@ -62,9 +62,9 @@ fn same_tsb(a: Tsb, b: Tsb) -> bool {
 }
 
 fn same_list(a: TsbList, b: TsbList) -> bool {
-    let p = a.list;
-    let q = b.list;
-    (a.count == b.count)
+    let p = a.tsb;
+    let q = b.tsb;
+    (a.tsbs == b.tsbs)
         & same_tsb(p[0], q[0])
         & same_tsb(p[1], q[1])
         & same_tsb(p[2], q[2])
@@ -72,8 +72,8 @@ fn same_list(a: TsbList, b: TsbList) -> bool {
 }
 
 fn same_cpu(a: Cpu, b: Cpu) -> bool {
-    let p = a.queues;
-    let q = b.queues;
+    let p = a.queue;
+    let q = b.queue;
     let a0 = a.ctx0;
     let b0 = b.ctx0;
     let a1 = a.ctxnon0;

@@ -1,11 +1,11 @@
--- `host::entry::seat_of` meets its contract: by what the entry came to.
+-- `host::door::seat_of` meets its contract: by what the door came to.
 use borrow.Author.Needs.{needs}
-use Rattle.host.proofs.EntryLaws.{counted, seat-as, seat-owned}
-use Rattle.host.proofs.entry.seat_of.Statement.{statement}
-use Rattle.host.proofs.entry.seat_of.Tie as tie
+use Rattle.host.proofs.DoorLaws.{counted, seat-as, seat-owned}
+use Rattle.host.proofs.door.seat_of.Statement.{statement}
+use Rattle.host.proofs.door.seat_of.Tie as tie
 
-enum-known-entry : tie.Need-enum-known-entry
-enum-known-entry c = search needs
+enum-known-door : tie.Need-enum-known-door
+enum-known-door c = search needs
 
 enum-told : tie.Need-enum-told
 enum-told c = search needs
@@ -25,4 +25,4 @@ returns-2 c = search seat-owned
 pub seat-of-spec : {M : Type 1} → statement M
 seat-of-spec =
     tie.close
-    (tie.spec enum-known-entry enum-told owner-of-requires seat-for-requires returns returns-2)
+    (tie.spec enum-known-door enum-told owner-of-requires seat-for-requires returns returns-2)

@@ -1,8 +1,8 @@
--- `host::entry::entry_of` meets its contract.
+-- `host::door::door_of` meets its contract.
 use borrow.Author.Needs.{needs}
-use Rattle.host.proofs.EntryLaws.{bad-tables, short-memory, entry-right}
-use Rattle.host.proofs.entry.entry_of.Statement.{statement}
-use Rattle.host.proofs.entry.entry_of.Tie as tie
+use Rattle.host.proofs.DoorLaws.{bad-tables, short-memory, door-right}
+use Rattle.host.proofs.door.door_of.Statement.{statement}
+use Rattle.host.proofs.door.door_of.Tie as tie
 
 keep-rules-requires : tie.Need-keep-rules-requires
 keep-rules-requires c κs = search needs
@@ -17,8 +17,8 @@ returns-2 : tie.Need-returns-2
 returns-2 c = search short-memory
 
 returns-3 : tie.Need-returns-3
-returns-3 c = search entry-right
+returns-3 c = search door-right
 
-pub entry-of-spec : {M : Type 1} → statement M
-entry-of-spec =
+pub door-of-spec : {M : Type 1} → statement M
+door-of-spec =
     tie.close (tie.spec keep-rules-requires returns long-enough-requires returns-2 returns-3)

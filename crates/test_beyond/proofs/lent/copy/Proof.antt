@@ -1,11 +1,11 @@
--- `beyond::lent::copy` is safe: what it copies is there in both.
+-- `lent::copy` is safe: what it copies is there in both.
 use mathlib.Core.Path.{sym}
 use native.Mathlib.Omega.{arith}
 use lib.ListN.{length-take}
 use lib.Seq.{length-take-le}
 use borrow.Author.Needs.{needs}
-use Rattle.beyond.proofs.lent.copy.Statement.{statement}
-use Rattle.beyond.proofs.lent.copy.Tie as tie
+use Rattle.test_beyond.proofs.lent.copy.Statement.{statement}
+use Rattle.test_beyond.proofs.lent.copy.Tie as tie
 
 least-requires : tie.Need-least-requires
 least-requires c κs = search needs

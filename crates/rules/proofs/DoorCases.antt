@@ -1,4 +1,4 @@
--- "Entry to every event": tables that each break one rule of the paper answer 101, and the other refusals at the entry. A rule on
+-- "Entry to every event": tables that each break one rule of the paper answer 101, and the other refusals at the door. A rule on
 -- tables that is too wide would pass unseen otherwise, since no session leads to such tables.
 use mathlib.Core.Path.{_≡_, refl}
 use mathlib.Core.Bool.{Bool, true, false}
@@ -37,7 +37,7 @@ abbrev pub plants : Plant → Tables
 plants plant = withPlant base 0 plant
 
 abbrev pub extended : ℕ → List Extent → Tables
-extended count list = placed 0 (record { extents = record { count = count; list = list }; plant = guest0 .plant })
+extended count list = placed 0 (record { extents = record { extents = count; extent = list }; plant = guest0 .plant })
 
 abbrev pub run : ℕ → ℕ → ℕ → Extent
 run real count host = record { real = real; count = count; host = host }
@@ -54,7 +54,7 @@ ringed c q base size head tail =
     plants (withQueue (guest0 .plant) c q (QueueRecord.Set (record { base = base; size = size; head = head; tail = tail })))
 
 abbrev pub listed : ℕ → List Tsb → TsbList
-listed count list = record { count = count; list = list }
+listed count list = record { tsbs = count; tsb = list }
 
 abbrev pub ctx0 : ℕ → TsbList → Tables
 ctx0 c list = plants (withCtx0 (guest0 .plant) c list)
@@ -115,7 +115,7 @@ abbrev pub full : ℕ → Plant
 full sources = record { versions = noVersions; cpus = 8; cpu = replicate 8 blankCpu; sources = sources; source = many 16 }
 
 abbrev pub fullGuest : Guest
-fullGuest = record { extents = record { count = 4; list = run 0 1 3 ∷ run 1 1 4 ∷ run 5 2 5 ∷ run 9 1 8 ∷ [] }; plant = full 16 }
+fullGuest = record { extents = record { extents = 4; extent = run 0 1 3 ∷ run 1 1 4 ∷ run 5 2 5 ∷ run 9 1 8 ∷ [] }; plant = full 16 }
 
 abbrev pub four : List Guest
 four = guest0 ∷ guest1 ∷ fullGuest ∷ workedGuest 1 7 0x400 ∷ []
@@ -130,8 +130,8 @@ broken =
     -- "Guests 0 to 3"
     counting 5 four
     -- "the records of absent guests .. stay so": extents, versions, counts, a cpu's record, a source's
-    ∷ placed 3 (record { extents = record { count = 1; list = replicate 4 blankExtent }; plant = blankGuest .plant })
-    ∷ placed 3 (record { extents = record { count = 0; list = replicate 3 blankExtent ++ (run 1 0 0 ∷ []) }; plant = blankGuest .plant })
+    ∷ placed 3 (record { extents = record { extents = 1; extent = replicate 4 blankExtent }; plant = blankGuest .plant })
+    ∷ placed 3 (record { extents = record { extents = 0; extent = replicate 3 blankExtent ++ (run 1 0 0 ∷ []) }; plant = blankGuest .plant })
     ∷ ghost (withVersions (blankGuest .plant) (at 1 0 0 0))
     ∷ ghost (withVersions (blankGuest .plant) (at 0 1 0 0))
     ∷ ghost (withVersions (blankGuest .plant) (at 0 0 1 0))
@@ -298,7 +298,7 @@ noCaller =
     ∷ "raise 0 0" prints "68 0 0 0 0"
     ∷ []
 
-pub record EntryCases : Type 0 where
+pub record DoorCases : Type 0 where
   pub bad-tables : statuses broken ≡ each-answers 101 broken
   pub right-tables : statuses right ≡ each-answers 0 right
   pub before-memory : numbers (hostEvent (statistics 0 0x41) [] (loading 9 0) .answer) ≡ 101 ∷ 0 ∷ 0 ∷ 0 ∷ 0 ∷ []
@@ -307,9 +307,9 @@ pub record EntryCases : Type 0 where
   pub just-enough : Cases 24576 apart justEnough
   pub no-caller : Cases 16384 worked noCaller
 
-pub entry-cases : EntryCases
+pub door-cases : DoorCases
 unfolding computing comparing after heard many statuses each-answers
-entry-cases = record {
+door-cases = record {
   bad-tables = refl;
   right-tables = refl;
   before-memory = refl;

@@ -3,8 +3,8 @@ use Prim.Native.Nat.{_≤_, _-_}
 use Prim.{tt}
 use lib.ListN.{length}
 use native.Mathlib.Omega.{arith}
-use Rattle.beyond.proofs.lent.same_bytes.Statement.{statement}
-use Rattle.beyond.proofs.lent.same_bytes.Tie as tie
+use Rattle.test_beyond.proofs.lent.same_bytes.Statement.{statement}
+use Rattle.test_beyond.proofs.lent.same_bytes.Tie as tie
 
 abbrev Inv-loop : tie.InvT-loop
 Inv-loop a b i₀ i = i ≤ length a

@@ -4,8 +4,8 @@ use borrow.Author.Needs.{needs}
 use Prim.{tt}
 use lib.ListN.{length}
 use native.Mathlib.Omega.{arith}
-use Rattle.beyond.proofs.lent.zeros_of.Statement.{statement}
-use Rattle.beyond.proofs.lent.zeros_of.Tie as tie
+use Rattle.test_beyond.proofs.lent.zeros_of.Statement.{statement}
+use Rattle.test_beyond.proofs.lent.zeros_of.Tie as tie
 
 abbrev Inv-loop : tie.InvT-loop
 Inv-loop mem z₀ i₀ z i = i ≤ length mem

@@ -70,7 +70,7 @@ fn set_cpus(t: Tables, v: u64) -> Tables {
 fn set_extents(t: Tables, v: u64) -> Tables {
     let guest = t.guest[0];
     let mut extents = guest.extents;
-    extents.count = byte(v);
+    extents.extents = byte(v);
     with_extents(t, extents)
 }
 
@@ -123,7 +123,7 @@ fn set_extent(t: Tables, i: usize, field: u64, v: u64) -> Tables {
     }
     let guest = t.guest[0];
     let mut extents = guest.extents;
-    extents.list[i] = changed_extent(extents.list[i], field, v);
+    extents.extent[i] = changed_extent(extents.extent[i], field, v);
     with_extents(t, extents)
 }
 
@@ -194,10 +194,10 @@ fn changed_ring(old: Ring, field: u64, v: u64) -> Ring {
 // The ring of queue 0x3c.
 fn cpu_with_ring(old: Cpu, field: u64, v: u64) -> Cpu {
     let mut new = old;
-    let queue = old.queues[0];
+    let queue = old.queue[0];
     let held = queue.held;
     let ring = changed_ring(ring_of(held), field, v);
-    new.queues[0] = Queue {
+    new.queue[0] = Queue {
         held: QueueRecord::Set(ring),
     };
     new
@@ -223,9 +223,9 @@ fn changed_list(old: TsbList, i: usize, field: u64, v: u64) -> TsbList {
     }
     let mut new = old;
     if field == 6 {
-        new.count = byte(v);
+        new.tsbs = byte(v);
     } else {
-        new.list[i] = changed_tsb(old.list[i], field, v);
+        new.tsb[i] = changed_tsb(old.tsb[i], field, v);
     }
     new
 }
@@ -278,7 +278,7 @@ fn changed_absent(old: Guest, field: u64, v: u64) -> Guest {
     match field {
         0 => plant.versions = versions,
         1 => plant.cpus = byte(v),
-        _ => extents.list[0] = changed_extent(extents.list[0], 2, v),
+        _ => extents.extent[0] = changed_extent(extents.extent[0], 2, v),
     }
     Guest { extents, plant }
 }

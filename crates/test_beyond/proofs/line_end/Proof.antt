@@ -2,8 +2,8 @@
 use Prim.Native.Nat.{_≤_, _-_}
 use lib.ListN.{length}
 use native.Mathlib.Omega.{arith}
-use Rattle.beyond.proofs.line_end.Statement.{statement}
-use Rattle.beyond.proofs.line_end.Tie as tie
+use Rattle.test_beyond.proofs.line_end.Statement.{statement}
+use Rattle.test_beyond.proofs.line_end.Tie as tie
 
 abbrev Inv-loop : tie.InvT-loop
 Inv-loop s at i₀ i = (at ≤ i) × (i ≤ length s)
