@@ -9,7 +9,7 @@ use Rattle.rules.specs.declared.Plant.{Plant}
 use Rattle.rules.specs.declared.Queue.{Queue}
 use Rattle.rules.specs.declared.QueueRecord.{QueueRecord}
 use Rattle.rules.specs.declared.Source.{Source}
-use Rattle.rules.specs.declared.TsbList.{TsbList}
+use Rattle.rules.specs.declared.Tsbs.{Tsbs}
 use Rattle.rules.specs.Limits.{cpuLimit, sourceLimit, queueLimit}
 use Rattle.rules.specs.Scan.{allBelow}
 use Rattle.rules.specs.Kept.{cpuAt, queueAt, sourceAt, blankQueue, blankSource, hollowCpu, withCpu, cpuWithQueue, cpuWithCtx0, cpuWithCtxnon0, cpuWithStatistics, withSources, withSource}
@@ -130,11 +130,11 @@ module _ (v : ℕ → ℕ → Bool) (cpu : Cpu) (e : cpuRight v cpu ≡ true) wh
       rw (all-of (λ j. recordRight v (queueAt (cpuWithQueue cpu q held) j)) queueLimit (λ j h. set-either (λ (x : Queue). recordRight v (x .held) ≡ true) (cpu .queue) q j (record { held = held }) blankQueue (λ z. r) (queue-right j h)))
       lists-part
 
-  pub with-ctx0 : (l : TsbList) → tsbsRight v l ≡ true → cpuRight v (cpuWithCtx0 cpu l) ≡ true
+  pub with-ctx0 : (l : Tsbs) → tsbsRight v l ≡ true → cpuRight v (cpuWithCtx0 cpu l) ≡ true
   unfolding cpuRight
   with-ctx0 l r = rw (queues-part, r, ctxnon0-part) statistics-part
 
-  pub with-ctxnon0 : (l : TsbList) → tsbsRight v l ≡ true → cpuRight v (cpuWithCtxnon0 cpu l) ≡ true
+  pub with-ctxnon0 : (l : Tsbs) → tsbsRight v l ≡ true → cpuRight v (cpuWithCtxnon0 cpu l) ≡ true
   unfolding cpuRight
   with-ctxnon0 l r = rw (queues-part, ctx0-part, r) statistics-part
 

@@ -11,7 +11,7 @@ use borrow.Author.Tests.{leb-true, eqb-true, eqb-false}
 use Rattle.rules.specs.declared.Plant.{Plant}
 use Rattle.rules.specs.declared.Refusal.the-variants.{EINVAL, EBADALIGN, ENORADDR, EBADPGSZ, EBADTSB}
 use Rattle.rules.specs.declared.Tsb.{Tsb}
-use Rattle.rules.specs.declared.TsbList.{TsbList}
+use Rattle.rules.specs.declared.Tsbs.{Tsbs}
 use Rattle.rules.specs.Limits.{tsbLimit}
 use Rattle.rules.specs.Kept.{cpuAt, blankTsb, blankTsbs, cpuWithCtx0, withCtx0, cpuWithCtxnon0, withCtxnon0, cpuWithStatistics, withStatistics}
 use Rattle.rules.specs.Real.{Sight}
@@ -88,17 +88,17 @@ no-tsbs : (v : ℕ → ℕ → Bool) → tsbsRight v blankTsbs ≡ true
 unfolding computing
 no-tsbs v = refl
 
-new-tsbs-right : (sight : Sight) (ntsb pointer : ℕ) (l : TsbList) → newTsbs sight ntsb pointer ≡ granted l → tsbsRight (sight .valid) l ≡ true
+new-tsbs-right : (sight : Sight) (ntsb pointer : ℕ) (l : Tsbs) → newTsbs sight ntsb pointer ≡ granted l → tsbsRight (sight .valid) l ≡ true
 unfolding newTsbs tsbsRight
 new-tsbs-right sight ntsb pointer l e = go (eqb ntsb 0) e
   where
-    listed : Ruling TsbList
+    listed : Ruling Tsbs
     listed = descriptors sight pointer ntsb grants λ list. granted (record { tsbs = ntsb; tsb = list })
 
-    ranged : Ruling TsbList
+    ranged : Ruling Tsbs
     ranged = sight .valid pointer (32 * ntsb) or-refuse ENORADDR then listed
 
-    aligned : Ruling TsbList
+    aligned : Ruling Tsbs
     aligned = eqb (pointer % 8) 0 or-refuse EBADALIGN then ranged
 
     go : (t : Bool) → (if t then granted blankTsbs else (leb ntsb tsbLimit or-refuse EINVAL then aligned)) ≡ granted l → tsbsRight (sight .valid) l ≡ true

@@ -16,7 +16,7 @@ use Rattle.rules.specs.declared.Plant.{Plant}
 use Rattle.rules.specs.declared.Refusal.{Refusal}
 use Rattle.rules.specs.declared.Refusal.the-variants.{EINVAL, EBADALIGN, ENORADDR}
 use Rattle.rules.specs.declared.Tsb.{Tsb}
-use Rattle.rules.specs.declared.TsbList.{TsbList}
+use Rattle.rules.specs.declared.Tsbs.{Tsbs}
 use Rattle.rules.specs.Limits.{cpuLimit}
 use Rattle.rules.specs.Kept.{blankTsbs}
 use Rattle.rules.specs.Real.{Sight, sightOf, numberOf}
@@ -146,7 +146,7 @@ module _ (s : Sight) (ntsb pointer : ℕ) (r : NewTsbs) where
         tsbs-listed e d = rw (ne-eqb ntsb 0 z, le-leb ntsb 4 h, eq-eqb (pointer % 8) 0 a, ← p, not-false b e) d
 
 -- 0x20 and 0x21: what the code gives back is what the change makes of the record, by the verdict v
-module _ (v : Verdict) (change : Change) (tsbs : TsbList) where
+module _ (v : Verdict) (change : Change) (tsbs : Tsbs) where
   pub settled-refused : (x : Refusal) (d : Gave) → v ≡ Told x → d ≡ doneBy (Refused x) Change.Nothing → d ≡ settledBy v change tsbs
   unfolding settledBy
   settled-refused x d e g = rw e g
@@ -167,11 +167,11 @@ module _ (extents : Extents) (plant : Plant) (m : List ℕ) (ntsb pointer : ℕ)
   tsbs-set r f g = quiet extents plant _ m d (rw (f, g) (settled-on (r .verdict) change (r .tsbs) plant (r .verdict)))
 
   -- w is what the rule makes of the record
-  pub set-by : (w : TsbList → Plant) → ((tsbs : TsbList) → changedBy plant tsbs (replicate cpuLimit 0) change ≡ w tsbs) → Follows extents plant (setTsbs (sightOf (present extents) m) plant ntsb pointer change) m d m
+  pub set-by : (w : Tsbs → Plant) → ((tsbs : Tsbs) → changedBy plant tsbs (replicate cpuLimit 0) change ≡ w tsbs) → Follows extents plant (setTsbs (sightOf (present extents) m) plant ntsb pointer change) m d m
       → Follows extents plant (newTsbs (sightOf (present extents) m) ntsb pointer grants λ tsbs. done (w tsbs)) m d m
   unfolding setTsbs
   set-by w f h = go (newTsbs (sightOf (present extents) m) ntsb pointer) h
     where
-      go : (x : Ruling TsbList) → Follows extents plant (x grants λ tsbs. done (changedBy plant tsbs (replicate cpuLimit 0) change)) m d m → Follows extents plant (x grants λ tsbs. done (w tsbs)) m d m
+      go : (x : Ruling Tsbs) → Follows extents plant (x grants λ tsbs. done (changedBy plant tsbs (replicate cpuLimit 0) change)) m d m → Follows extents plant (x grants λ tsbs. done (w tsbs)) m d m
       go (refused r) h = h
       go (granted l) h = rw (f l) at h

@@ -3,7 +3,7 @@ use Prim.Native.Nat.{ℕ}
 use lib.ListN.{replicate}
 use Rattle.rules.specs.declared.Answer.{Answer}
 use Rattle.rules.specs.declared.Plant.{Plant}
-use Rattle.rules.specs.declared.TsbList.{TsbList}
+use Rattle.rules.specs.declared.Tsbs.{Tsbs}
 use Rattle.rules.specs.Limits.{cpuLimit}
 use Rattle.rules.specs.Real.{Sight}
 use Rattle.rules.specs.Rulings.{Ruling, granted, _grants_, Outcome, done}
@@ -14,13 +14,13 @@ use Rattle.plants.specs.declared.change.Done.{Done}
 use Rattle.plants.specs.Changes.{doneBy, changedBy}
 
 -- the last step of a new list
-unfoldable pub listed : Sight → ℕ → ℕ → Ruling TsbList
+unfoldable pub listed : Sight → ℕ → ℕ → Ruling Tsbs
 listed sight pointer ntsb =
     descriptors sight pointer ntsb grants λ list.
     granted (record { tsbs = ntsb; tsb = list })
 
 -- what the code gives back: the change with its list, or no change, where the list is refused
-unfoldable pub settledBy : Verdict → Change → TsbList → Done
+unfoldable pub settledBy : Verdict → Change → Tsbs → Done
 settledBy (Verdict.Refused r) change tsbs = doneBy (Answer.Refused r) Change.Nothing
 settledBy Verdict.Right change tsbs = record { answer = Answer.Done; change = change; tsbs = tsbs; tails = replicate cpuLimit 0 }
 

@@ -11,7 +11,7 @@ use rules::Extents;
 use rules::Real;
 use rules::Refusal;
 use rules::Tsb;
-use rules::TsbList;
+use rules::Tsbs;
 ghost use mathlib.Core.Path.{_≡_};
 ghost use mathlib.Core.Bool.{true};
 ghost use Prim.Native.Nat.{_*_, _<_, _≤_};
@@ -30,7 +30,7 @@ ghost use Rattle.mmu.specs.Lists.{listed, settledBy, setTsbs};
 // A new list: all its descriptors are right, or a verdict refuses it and the list is blank.
 pub struct NewTsbs {
     pub verdict: Verdict,
-    pub tsbs: TsbList,
+    pub tsbs: Tsbs,
 }
 
 // The descriptor at a real address, all of it but the reserved word.
@@ -81,7 +81,7 @@ fn read_tsbs(extents: Extents, mem: &[u8], count: u8, pointer: u64) -> NewTsbs
         list[i as usize] = t;
         i += 1;
     }
-    let tsbs = TsbList {
+    let tsbs = Tsbs {
         tsbs: count,
         tsb: list,
     };
@@ -113,7 +113,7 @@ fn new_tsbs(extents: Extents, mem: &[u8], ntsb: u64, pointer: u64) -> NewTsbs
 }
 
 // What 0x20 and 0x21 come to: the change with its list, or no change, where the list is refused.
-fn settled(verdict: Verdict, change: Change, tsbs: TsbList) -> Done
+fn settled(verdict: Verdict, change: Change, tsbs: Tsbs) -> Done
     ensures { λ r. ⌜ r ≡ settledBy verdict change tsbs ⌝ }
 {
     match verdict {

@@ -8,7 +8,7 @@ use Rattle.rules.specs.declared.Cpu.{Cpu}
 use Rattle.rules.specs.declared.Plant.{Plant}
 use Rattle.rules.specs.declared.QueueRecord.{QueueRecord}
 use Rattle.rules.specs.declared.Source.{Source}
-use Rattle.rules.specs.declared.TsbList.{TsbList}
+use Rattle.rules.specs.declared.Tsbs.{Tsbs}
 use Rattle.rules.specs.declared.Versions.{Versions}
 use Rattle.rules.specs.Limits.{cpuLimit, queueLimit, sourceLimit}
 use Rattle.rules.specs.Kept.{cpuAt, withVersions, withCpu, withQueue, withSources, withSource, cpuWithQueue, cpuWithCtx0, cpuWithCtxnon0, cpuWithStatistics}
@@ -18,7 +18,7 @@ use Rattle.plants.specs.declared.change.CpuChange.{CpuChange}
 use Rattle.plants.specs.declared.change.Done.{Done}
 use Rattle.plants.specs.Changes.{withTails, cpuAfter, changedBy, plantAfter}
 
-module _ (cpu : Cpu) (tsbs : TsbList) (change : CpuChange) where
+module _ (cpu : Cpu) (tsbs : Tsbs) (change : CpuChange) where
   module _ (q : ℕ) (held : QueueRecord) (e : change ≡ CpuChange.Queue q held) where
     pub cpu-queue : q < queueLimit → cpuWithQueue cpu q held ≡ cpuAfter cpu tsbs change
     unfolding cpuAfter

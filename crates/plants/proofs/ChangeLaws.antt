@@ -8,7 +8,7 @@ use Rattle.rules.specs.declared.Cpu.{Cpu}
 use Rattle.rules.specs.declared.Plant.{Plant}
 use Rattle.rules.specs.declared.QueueRecord.{QueueRecord}
 use Rattle.rules.specs.declared.Source.{Source}
-use Rattle.rules.specs.declared.TsbList.{TsbList}
+use Rattle.rules.specs.declared.Tsbs.{Tsbs}
 use Rattle.rules.specs.Limits.{cpuLimit, queueLimit, sourceLimit}
 use Rattle.rules.specs.Kept.{withQueue, withStatistics, withSource, withCtx0, withCtxnon0}
 use Rattle.plants.specs.declared.change.Change.{Change}
@@ -16,7 +16,7 @@ use Rattle.plants.specs.declared.change.CpuChange.{CpuChange}
 use Rattle.plants.specs.declared.change.Done.{Done}
 use Rattle.plants.specs.Changes.{changing, changedBy, cpuAfter, plantAfter}
 
-module _ (plant : Plant) (tsbs : TsbList) (tails : List ℕ) where
+module _ (plant : Plant) (tsbs : Tsbs) (tails : List ℕ) where
   pub source-after : (i : ℕ) (s : Source) → i < sourceLimit → changedBy plant tsbs tails (Change.Source i s) ≡ withSource plant i s
   unfolding changedBy
   source-after i s h = rw (lt-ltb _ _ h)

@@ -9,7 +9,7 @@ use Rattle.rules.specs.declared.Cpu.{Cpu}
 use Rattle.rules.specs.declared.Plant.{Plant}
 use Rattle.rules.specs.declared.QueueRecord.{QueueRecord}
 use Rattle.rules.specs.declared.Source.{Source}
-use Rattle.rules.specs.declared.TsbList.{TsbList}
+use Rattle.rules.specs.declared.Tsbs.{Tsbs}
 use Rattle.rules.specs.Limits.{cpuLimit, queueLimit, sourceLimit}
 use Rattle.rules.specs.Kept.{blankTsbs, cpuAt, queueAt, withVersions, withCpu, withQueue, withSource, withTail, cpuWithQueue, cpuWithCtx0, cpuWithCtxnon0, cpuWithStatistics}
 use Rattle.rules.specs.Queues.{indexOf}
@@ -57,14 +57,14 @@ withTails plant tails = record {
 }
 
 -- a cpu's record after
-unfoldable pub cpuAfter : Cpu → TsbList → CpuChange → Cpu
+unfoldable pub cpuAfter : Cpu → Tsbs → CpuChange → Cpu
 cpuAfter cpu tsbs (CpuChange.Queue q held) = if ltb q queueLimit then cpuWithQueue cpu q held else cpu
 cpuAfter cpu tsbs CpuChange.Ctx0 = cpuWithCtx0 cpu tsbs
 cpuAfter cpu tsbs CpuChange.Ctxnon0 = cpuWithCtxnon0 cpu tsbs
 cpuAfter cpu tsbs (CpuChange.Statistics address) = cpuWithStatistics cpu address
 
 -- the plant's record after; a place that is not there is not changed
-unfoldable pub changedBy : Plant → TsbList → List ℕ → Change → Plant
+unfoldable pub changedBy : Plant → Tsbs → List ℕ → Change → Plant
 changedBy plant tsbs tails Change.Nothing = plant
 changedBy plant tsbs tails (Change.Versions v) = withVersions plant v
 changedBy plant tsbs tails (Change.Disabled v) = allDisabled (withVersions plant v)

@@ -11,7 +11,7 @@ use rules::Queue;
 use rules::QueueRecord;
 use rules::SOURCES;
 use rules::Source;
-use rules::TsbList;
+use rules::Tsbs;
 use rules::Versions;
 ghost use mathlib.Core.Path.{_≡_};
 ghost use Prim.Native.Nat.{_≤_};
@@ -42,7 +42,7 @@ pub enum Change {
 pub struct Done {
     pub answer: Answer,
     pub change: Change,
-    pub tsbs: TsbList,
+    pub tsbs: Tsbs,
     pub tails: [u16; CPUS],
 }
 
@@ -81,7 +81,7 @@ pub fn is_change(change: Change) -> bool
 }
 
 // A cpu's record after. A queue that is not there is not changed.
-fn cpu_after(cpu: Cpu, change: CpuChange, tsbs: TsbList) -> Cpu
+fn cpu_after(cpu: Cpu, change: CpuChange, tsbs: Tsbs) -> Cpu
     ensures { λ r. ⌜ r ≡ cpuAfter cpu tsbs change ⌝ }
 {
     let mut next = cpu;

@@ -20,7 +20,7 @@ use rules::TSBS;
 use rules::Tables;
 use rules::Target;
 use rules::Tsb;
-use rules::TsbList;
+use rules::Tsbs;
 use rules::Versions;
 
 pub fn extent() -> Extent
@@ -70,10 +70,10 @@ pub fn versions() -> Versions
     }
 }
 
-pub fn tsbs() -> TsbList
+pub fn tsbs() -> Tsbs
     ensures { λ r. ⌜ r ≡ blankTsbs ⌝ }
 {
-    TsbList {
+    Tsbs {
         tsbs: 0,
         tsb: [Tsb {
             index: 0,

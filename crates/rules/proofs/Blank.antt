@@ -7,7 +7,7 @@ use native.Mathlib.Omega.{arith}
 use lib.Dec.{eqb}
 use lib.ListN.{length, getD, replicate}
 use borrow.Author.Tests.{eqb-true, not-true}
-use Rattle.rules.specs.Types.{Extent, Extents, QueueRecord, Queue, Tsb, TsbList, Cpu, Target, Source, Versions, Plant, Guest}
+use Rattle.rules.specs.Types.{Extent, Extents, QueueRecord, Queue, Tsb, Tsbs, Cpu, Target, Source, Versions, Plant, Guest}
 use Rattle.rules.specs.Limits.{cpuLimit, extentLimit, sourceLimit, queueLimit, tsbLimit}
 use Rattle.rules.specs.Scan.{allBelow}
 use Rattle.rules.specs.Kept.{blankExtent, blankQueue, blankTsb, blankTsbs, blankCpu, blankSource, noVersions, blankGuest, hollowCpu, extentAt, queueAt, tsbAt, cpuAt, sourceAt}
@@ -61,7 +61,7 @@ tsb-blank t e =
     let g : t .base ≡ 0 = eqb-true _ _ (and-right (eqb (t .mask) 0) _ (and-right (eqb (t .context) 0) _ s)) in
     λ i. record { index = a i; associativity = b i; entries = c i; context = d i; mask = f i; base = g i }
 
-pub tsbs-blank : (tsbs : TsbList) → length (tsbs .tsb) ≡ tsbLimit → tsbsBlank tsbs ≡ true → tsbs ≡ blankTsbs
+pub tsbs-blank : (tsbs : Tsbs) → length (tsbs .tsb) ≡ tsbLimit → tsbsBlank tsbs ≡ true → tsbs ≡ blankTsbs
 unfolding tsbsBlank
 tsbs-blank tsbs n e =
     let p : tsbs .tsbs ≡ 0 = eqb-true _ _ (and-left (eqb (tsbs .tsbs) 0) _ e) in

@@ -4,7 +4,7 @@ use mathlib.Core.List.{List, [], _∷_, _++_}
 use Prim.Native.Nat.{ℕ, zero, suc, _+_, _*_, _/_}
 use lib.Dec.{eqb}
 use lib.ListN.{getD}
-use Rattle.rules.specs.Types.{Extent, QueueRecord, Tsb, TsbList, Cpu, Target, Source, Versions, Plant, Guest, Tables}
+use Rattle.rules.specs.Types.{Extent, QueueRecord, Tsb, Tsbs, Cpu, Target, Source, Versions, Plant, Guest, Tables}
 use Rattle.rules.specs.Kept.{guestAt, extentAt, cpuAt, queueAt, tsbAt, sourceAt}
 use Rattle.rules.specs.Text.{same}
 use Rattle.rules.specs.Session.{Session}
@@ -71,7 +71,7 @@ queueRow g c q (QueueRecord.Set r) = ring g c q (r .base) (r .size) (r .head) (r
 abbrev pub tsbRow : ℕ → ℕ → ℕ → ℕ → Tsb → Row
 tsbRow function g c i t = tsb function g c i (t .index) (t .associativity) (t .entries) (t .context) (t .mask) (t .base)
 
-abbrev pub tsbRows : ℕ → ℕ → ℕ → TsbList → List Row
+abbrev pub tsbRows : ℕ → ℕ → ℕ → Tsbs → List Row
 tsbRows function g c list = tsbs function g c (list .tsbs) ∷ each 4 (λ i. tsbRow function g c i (tsbAt list i) ∷ [])
 
 abbrev pub cpuRows : ℕ → ℕ → Cpu → List Row

@@ -6,7 +6,7 @@ use mathlib.Core.List.{List, [], _∷_, _++_}
 use Prim.Native.Nat.{ℕ, zero, suc, _+_}
 use Prim.Native.String.{String}
 use lib.ListN.{replicate, set}
-use Rattle.rules.specs.Types.{Extent, QueueRecord, Tsb, TsbList, Target, Source, Versions, Plant, Guest, Tables}
+use Rattle.rules.specs.Types.{Extent, QueueRecord, Tsb, Tsbs, Target, Source, Versions, Plant, Guest, Tables}
 use Rattle.rules.specs.Kept.{blankExtent, blankTsb, blankCpu, blankSource, blankGuest, noVersions, sourceAt, withPlant, withVersions, withSource, withQueue, withCtx0, withCtxnon0, withStatistics, withEnabled, withState, withTarget, withCookie}
 use Rattle.rules.specs.Statuses.{numbers}
 use Rattle.rules.specs.Host.{hostEvent}
@@ -53,13 +53,13 @@ abbrev pub ringed : ℕ → ℕ → ℕ → ℕ → ℕ → ℕ → Tables
 ringed c q base size head tail =
     plants (withQueue (guest0 .plant) c q (QueueRecord.Set (record { base = base; size = size; head = head; tail = tail })))
 
-abbrev pub listed : ℕ → List Tsb → TsbList
+abbrev pub listed : ℕ → List Tsb → Tsbs
 listed count list = record { tsbs = count; tsb = list }
 
-abbrev pub ctx0 : ℕ → TsbList → Tables
+abbrev pub ctx0 : ℕ → Tsbs → Tables
 ctx0 c list = plants (withCtx0 (guest0 .plant) c list)
 
-abbrev pub ctxnon0 : ℕ → TsbList → Tables
+abbrev pub ctxnon0 : ℕ → Tsbs → Tables
 ctxnon0 c list = plants (withCtxnon0 (guest0 .plant) c list)
 
 abbrev pub tsb : ℕ → ℕ → ℕ → ℕ → ℕ → ℕ → Tsb

@@ -3,7 +3,7 @@ use mathlib.Core.Bool.{false}
 use mathlib.Core.List.{List, []}
 use Prim.Native.Nat.{ℕ}
 use lib.ListN.{getD, set, replicate, take}
-use Rattle.rules.specs.Types.{Extent, Extents, Ring, QueueRecord, Queue, Tsb, TsbList, Cpu, Target, Source, Versions, Plant, Guest, Tables}
+use Rattle.rules.specs.Types.{Extent, Extents, Ring, QueueRecord, Queue, Tsb, Tsbs, Cpu, Target, Source, Versions, Plant, Guest, Tables}
 use Rattle.rules.specs.Limits.{guestLimit, cpuLimit, extentLimit, sourceLimit, queueLimit, tsbLimit}
 
 -- "After loading, all is unset, disabled, idle and 0, and the records of absent guests, cpus, extents, sources and list places stay so."
@@ -17,7 +17,7 @@ blankQueue = record { held = QueueRecord.Unset }
 abbrev pub blankTsb : Tsb
 blankTsb = record { index = 0; associativity = 0; entries = 0; context = 0; mask = 0; base = 0 }
 
-abbrev pub blankTsbs : TsbList
+abbrev pub blankTsbs : Tsbs
 blankTsbs = record { tsbs = 0; tsb = replicate tsbLimit blankTsb }
 
 abbrev pub blankCpu : Cpu
@@ -72,7 +72,7 @@ cpuAt plant c = getD (plant .cpu) c hollowCpu
 abbrev pub queueAt : Cpu → ℕ → QueueRecord
 queueAt cpu q = getD (cpu .queue) q blankQueue .held
 
-abbrev pub tsbAt : TsbList → ℕ → Tsb
+abbrev pub tsbAt : Tsbs → ℕ → Tsb
 tsbAt tsbs i = getD (tsbs .tsb) i blankTsb
 
 abbrev pub sourceAt : Plant → ℕ → Source
@@ -104,16 +104,16 @@ cpuWithQueue cpu q held = record { queue = set (cpu .queue) q (record { held = h
 unfoldable pub withQueue : Plant → ℕ → ℕ → QueueRecord → Plant
 withQueue plant c q held = withCpu plant c (cpuWithQueue (cpuAt plant c) q held)
 
-abbrev pub cpuWithCtx0 : Cpu → TsbList → Cpu
+abbrev pub cpuWithCtx0 : Cpu → Tsbs → Cpu
 cpuWithCtx0 cpu tsbs = record { queue = cpu .queue; ctx0 = tsbs; ctxnon0 = cpu .ctxnon0; statistics = cpu .statistics }
 
-unfoldable pub withCtx0 : Plant → ℕ → TsbList → Plant
+unfoldable pub withCtx0 : Plant → ℕ → Tsbs → Plant
 withCtx0 plant c tsbs = withCpu plant c (cpuWithCtx0 (cpuAt plant c) tsbs)
 
-abbrev pub cpuWithCtxnon0 : Cpu → TsbList → Cpu
+abbrev pub cpuWithCtxnon0 : Cpu → Tsbs → Cpu
 cpuWithCtxnon0 cpu tsbs = record { queue = cpu .queue; ctx0 = cpu .ctx0; ctxnon0 = tsbs; statistics = cpu .statistics }
 
-unfoldable pub withCtxnon0 : Plant → ℕ → TsbList → Plant
+unfoldable pub withCtxnon0 : Plant → ℕ → Tsbs → Plant
 withCtxnon0 plant c tsbs = withCpu plant c (cpuWithCtxnon0 (cpuAt plant c) tsbs)
 
 abbrev pub cpuWithStatistics : Cpu → ℕ → Cpu

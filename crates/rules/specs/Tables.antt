@@ -2,7 +2,7 @@
 use mathlib.Core.Bool.{Bool, true, false, _&&_, _||_, not}
 use Prim.Native.Nat.{ℕ, _/_, _%_}
 use lib.Dec.{leb, ltb, eqb}
-use Rattle.rules.specs.Types.{Group, Extent, Extents, Ring, QueueRecord, Tsb, TsbList, Cpu, Target, Source, Versions, Plant, Guest, Tables}
+use Rattle.rules.specs.Types.{Group, Extent, Extents, Ring, QueueRecord, Tsb, Tsbs, Cpu, Target, Source, Versions, Plant, Guest, Tables}
 use Rattle.rules.specs.Limits.{guestLimit, cpuLimit, extentLimit, sourceLimit, queueLimit, tsbLimit, devhandles, devinos}
 use Rattle.rules.specs.Scan.{allBelow}
 use Rattle.rules.specs.Kept.{guestAt, extentAt, present, cpuAt, queueAt, tsbAt, sourceAt}
@@ -33,7 +33,7 @@ tsbBlank t =
     (eqb (t .index) 0 && (eqb (t .associativity) 0 && eqb (t .entries) 0))
     && (eqb (t .context) 0 && (eqb (t .mask) 0 && eqb (t .base) 0))
 
-unfoldable pub tsbsBlank : TsbList → Bool
+unfoldable pub tsbsBlank : Tsbs → Bool
 tsbsBlank tsbs = eqb (tsbs .tsbs) 0 && allBelow tsbLimit (λ i. tsbBlank (tsbAt tsbs i))
 
 unfoldable pub cpuBlank : Cpu → Bool
@@ -78,7 +78,7 @@ abbrev pub recordRight : (ℕ → ℕ → Bool) → QueueRecord → Bool
 recordRight valid QueueRecord.Unset = true
 recordRight valid (QueueRecord.Set ring) = ringRight valid ring
 
-unfoldable pub tsbsRight : (ℕ → ℕ → Bool) → TsbList → Bool
+unfoldable pub tsbsRight : (ℕ → ℕ → Bool) → Tsbs → Bool
 tsbsRight valid tsbs = listRight tsbLimit (tsbs .tsbs) (λ i. accepts (judgedTsb valid (tsbAt tsbs i))) (λ i. tsbBlank (tsbAt tsbs i))
 
 unfoldable pub cpuRight : (ℕ → ℕ → Bool) → Cpu → Bool

@@ -4,7 +4,7 @@ use mathlib.Core.List.{List}
 use Prim.Native.Nat.{ℕ, zero, suc, _+_, _*_, _/_, _%_, _^_}
 use lib.Dec.{leb, eqb}
 use lib.ListN.{set, replicate}
-use Rattle.rules.specs.Types.{Tsb, TsbList, Plant, EINVAL, EBADALIGN, ENORADDR, EBADPGSZ, EBADTSB}
+use Rattle.rules.specs.Types.{Tsb, Tsbs, Plant, EINVAL, EBADALIGN, ENORADDR, EBADPGSZ, EBADTSB}
 use Rattle.rules.specs.Limits.{tsbLimit}
 use Rattle.rules.specs.Scan.{allBelow, power-of-two_from_to_}
 use Rattle.rules.specs.Kept.{blankTsb, blankTsbs, withCtx0, withCtxnon0}
@@ -58,7 +58,7 @@ descriptors sight pointer (suc n) =
 
 -- (ntsb, pointer): "ntsb 0 clears the list; above 4 EINVAL; pointer not on 8 EBADALIGN; 32·ntsb bytes not valid ENORADDR."
 -- "All descriptors are stored or none."
-unfoldable pub newTsbs : Sight → ℕ → ℕ → Ruling TsbList
+unfoldable pub newTsbs : Sight → ℕ → ℕ → Ruling Tsbs
 newTsbs sight ntsb pointer =
     if eqb ntsb 0 then granted blankTsbs else
     leb ntsb tsbLimit or-refuse EINVAL then

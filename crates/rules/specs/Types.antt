@@ -9,7 +9,7 @@ pub use Rattle.rules.specs.declared.Ring.{Ring}
 pub use Rattle.rules.specs.declared.QueueRecord.{QueueRecord}
 pub use Rattle.rules.specs.declared.Queue.{Queue}
 pub use Rattle.rules.specs.declared.Tsb.{Tsb}
-pub use Rattle.rules.specs.declared.TsbList.{TsbList}
+pub use Rattle.rules.specs.declared.Tsbs.{Tsbs}
 pub use Rattle.rules.specs.declared.Cpu.{Cpu}
 pub use Rattle.rules.specs.declared.Target.{Target}
 pub use Rattle.rules.specs.declared.Source.{Source}

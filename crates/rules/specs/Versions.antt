@@ -4,6 +4,7 @@ use mathlib.Core.List.{map}
 use Prim.Native.Nat.{ℕ}
 use lib.Dec.{leb, ltb, eqb}
 use Rattle.rules.specs.Types.{Group, Source, Versions, Plant, One, Two, EINVAL, ENOTSUPPORTED}
+use Rattle.rules.specs.Scan.{_is-from_to_}
 use Rattle.rules.specs.Kept.{withVersions, withSources, withEnabled}
 use Rattle.rules.specs.Rulings.{Ruling, Outcome, _or-refuse_then_, if_then_else_, says}
 
@@ -65,7 +66,7 @@ negotiated plant group major =
 unfoldable pub set-version : Plant → ℕ → ℕ → Ruling Outcome
 set-version plant group major =
     known (groupOf group) or-refuse EINVAL then
-    (leb 1 major && leb major (newest (groupOf group))) or-refuse ENOTSUPPORTED then
+    (major is-from 1 to newest (groupOf group)) or-refuse ENOTSUPPORTED then
     leb (majorOf (plant .versions) (groupOf group)) major or-refuse ENOTSUPPORTED then
     says (One 0) (negotiated plant (groupOf group) major)
 

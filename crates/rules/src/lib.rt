@@ -45,6 +45,7 @@ pub struct Extent {
     pub host: u16,
 }
 
+// The memory of a guest.
 pub struct Extents {
     pub extents: u8,
     pub extent: [Extent; EXTENTS],
@@ -78,7 +79,8 @@ pub struct Tsb {
     pub base: u64,
 }
 
-pub struct TsbList {
+// A TSB list.
+pub struct Tsbs {
     pub tsbs: u8,
     pub tsb: [Tsb; TSBS],
 }
@@ -86,8 +88,8 @@ pub struct TsbList {
 // Queues 0x3c to 0x3f, the TSB lists for context 0 and the other contexts, and the statistics address, 0 where there is none.
 pub struct Cpu {
     pub queue: [Queue; QUEUES],
-    pub ctx0: TsbList,
-    pub ctxnon0: TsbList,
+    pub ctx0: Tsbs,
+    pub ctxnon0: Tsbs,
     pub statistics: u64,
 }
 

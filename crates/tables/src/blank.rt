@@ -19,7 +19,7 @@ use rules::Source;
 use rules::TSBS;
 use rules::Target;
 use rules::Tsb;
-use rules::TsbList;
+use rules::Tsbs;
 use rules::Versions;
 
 pub(crate) fn extent_blank(x: Extent) -> bool
@@ -71,7 +71,7 @@ pub(crate) fn tsb_blank(t: Tsb) -> bool
         & ((t.context == 0) & ((t.mask == 0) & (t.base == 0)))
 }
 
-fn tsbs_blank(tsbs: TsbList) -> bool
+fn tsbs_blank(tsbs: Tsbs) -> bool
     ensures { λ r. ⌜ r ≡ tsbsBlank tsbs ⌝ }
 {
     let list = tsbs.tsb;

@@ -27,7 +27,7 @@ use rules::SOURCES;
 use rules::Source;
 use rules::TSBS;
 use rules::Tsb;
-use rules::TsbList;
+use rules::Tsbs;
 
 // A head or tail: a multiple of 64 below the ring's size.
 fn place_right(size: u16, at: u16) -> bool
@@ -94,7 +94,7 @@ fn tsb_keeps(e: Extents, there: bool, t: Tsb) -> bool
     }
 }
 
-fn tsbs_right(e: Extents, tsbs: TsbList) -> bool
+fn tsbs_right(e: Extents, tsbs: Tsbs) -> bool
     requires { ⌜ e .extents ≤ extentLimit ⌝ }
     ensures { λ r. ⌜ r ≡ tsbsRight (valid (present e)) tsbs ⌝ }
 {

@@ -17,7 +17,7 @@ use rules::TSBS;
 use rules::Tables;
 use rules::Target;
 use rules::Tsb;
-use rules::TsbList;
+use rules::Tsbs;
 use rules::Versions;
 
 fn byte(v: u64) -> u8 {
@@ -217,7 +217,7 @@ fn changed_tsb(old: Tsb, field: u64, v: u64) -> Tsb {
 }
 
 // Field 6 is the list's count.
-fn changed_list(old: TsbList, i: usize, field: u64, v: u64) -> TsbList {
+fn changed_list(old: Tsbs, i: usize, field: u64, v: u64) -> Tsbs {
     if TSBS <= i {
         return old;
     }

@@ -5,7 +5,7 @@ use rules::CPUS;
 use rules::GUESTS;
 use rules::Tables;
 use rules::Tsb;
-use rules::TsbList;
+use rules::Tsbs;
 
 fn say_tsb(t: Tsb, end: &[u8]) {
     say_number(t.index as u64, b" ");
@@ -17,7 +17,7 @@ fn say_tsb(t: Tsb, end: &[u8]) {
 }
 
 // The count and all four places, each with its fields in the order of the descriptor.
-fn show_list(list: TsbList) {
+fn show_list(list: Tsbs) {
     say_number(list.tsbs as u64, b", ");
     let places = list.tsb;
     say_tsb(places[0], b", ");

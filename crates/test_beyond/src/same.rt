@@ -12,7 +12,7 @@ use rules::Source;
 use rules::Tables;
 use rules::Target;
 use rules::Tsb;
-use rules::TsbList;
+use rules::Tsbs;
 use rules::Versions;
 
 fn same_extent(a: Extent, b: Extent) -> bool {
@@ -61,7 +61,7 @@ fn same_tsb(a: Tsb, b: Tsb) -> bool {
         & (a.base == b.base)
 }
 
-fn same_list(a: TsbList, b: TsbList) -> bool {
+fn same_list(a: Tsbs, b: Tsbs) -> bool {
     let p = a.tsb;
     let q = b.tsb;
     (a.tsbs == b.tsbs)

@@ -7,7 +7,7 @@ use native.Mathlib.Omega.{arith}
 use borrow.Author.Tests.{le-leb, lt-leb, lt-ltb, le-ltb, eq-eqb, ne-eqb, not-true, not-false}
 use Rattle.rules.specs.declared.Group.{Group}
 use Rattle.rules.specs.declared.Plant.{Plant}
-use Rattle.rules.specs.declared.TsbList.{TsbList}
+use Rattle.rules.specs.declared.Tsbs.{Tsbs}
 use Rattle.rules.specs.declared.Versions.{Versions}
 use Rattle.rules.specs.declared.Refusal.the-variants.{EINVAL, ENOTSUPPORTED}
 use Rattle.rules.specs.declared.Answer.the-variants.{One, Two}
@@ -21,7 +21,7 @@ unfolding groupOf
 group-other n a b c d = rw (ne-eqb n 0 a, ne-eqb n 1 b, ne-eqb n 2 c, ne-eqb n 0x200 d)
 
 -- b is the major before, and w the versions after; neither change looks at the list and the tails beside it
-module _ (plant : Plant) (group : Group) (major b : ℕ) (w : Versions) (p : b ≡ majorOf (plant .versions) group) (q : w ≡ withMajor (plant .versions) group major) (tsbs : TsbList) (tails : List ℕ) where
+module _ (plant : Plant) (group : Group) (major b : ℕ) (w : Versions) (p : b ≡ majorOf (plant .versions) group) (q : w ≡ withMajor (plant .versions) group major) (tsbs : Tsbs) (tails : List ℕ) where
   pub negotiated-again : major ≤ b → changedBy plant tsbs tails (Change.Versions w) ≡ negotiated plant group major
   unfolding negotiated changedBy
   negotiated-again h = rw (← p, le-ltb b major h, q)

@@ -11,7 +11,7 @@ use rules::Versions;
 ghost use mathlib.Core.Path.{_≡_};
 ghost use mathlib.Core.List.{List};
 ghost use Prim.Native.Nat.{ℕ};
-ghost use Rattle.rules.specs.declared.TsbList.{TsbList};
+ghost use Rattle.rules.specs.declared.Tsbs.{Tsbs};
 ghost use Rattle.rules.specs.Rulings.{outcomeOf};
 ghost use Rattle.rules.specs.Versions.{groupOf, known, newest, majorOf, withMajor, negotiated, set-version, get-version};
 ghost use Rattle.plants.specs.Changes.{changedBy};
@@ -84,7 +84,7 @@ fn with_major(v: Versions, group: Group, major: u8) -> Versions
 
 // What setting the version changes: going to 2.0 disables every source, repeating a version changes nothing.
 fn negotiate(plant: Plant, group: Group, major: u8) -> Change
-    ensures { λ r. ⌜ ((tsbs : TsbList) (tails : List ℕ) → changedBy plant tsbs tails r ≡ negotiated plant group major) ⌝ }
+    ensures { λ r. ⌜ ((tsbs : Tsbs) (tails : List ℕ) → changedBy plant tsbs tails r ≡ negotiated plant group major) ⌝ }
 {
     let v = plant.versions;
     let before = major_of(v, group);

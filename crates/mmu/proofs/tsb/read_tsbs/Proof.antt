@@ -4,7 +4,7 @@ use borrow.Author.Needs.{needs}
 use mathlib.Core.Path.{_≡_, sym, ap, _∙_}
 use Prim.Native.Nat.{_≤_, _-_, _*_}
 use lib.ListN.{length, length-set}
-use Rattle.rules.specs.declared.TsbList.{TsbList}
+use Rattle.rules.specs.declared.Tsbs.{Tsbs}
 use Rattle.rules.specs.Real.{sightOf}
 use Rattle.rules.specs.Rulings.{granted}
 use Rattle.rules.specs.Tsb.{descriptors}
@@ -26,7 +26,7 @@ tsbs-requires c κs = search needs
 
 loop-holds : tie.Need-loop-holds Inv-loop μ-loop
 loop-holds c =
-    let e = ap (λ (t : TsbList). t .tsb) (c .before .tsbs .ensures) in
+    let e = ap (λ (t : Tsbs). t .tsb) (c .before .tsbs .ensures) in
     (omega arith, ap length e, listed-none _ _ ∙ ap granted (sym e))
 
 cast-at : tie.Need-cast-at Inv-loop μ-loop
