@@ -58,10 +58,12 @@ wrong =
     ∷ "image 11 120 fffffff 0002 0000"
     ∷ "image 11 120 0000000 0002 ffff"
     -- "a guest's extents ascend in real page without overlap": the second below the first, in it, at the same page; the third
+    -- below the second, and in it
     ∷ "image 11 140 0000005 0001 0000 0000000 0001 0001 0"
     ∷ "image 11 140 0000000 0002 0000 0000001 0001 0002 0"
     ∷ "image 11 140 0000000 0001 0000 0000000 0001 0001 0"
     ∷ "image 11 160 0000000 0001 0000 0000005 0001 0001 0000001 0001 0002"
+    ∷ "image 11 160 0000000 0001 0000 0000001 0002 0001 0000002 0001 0003"
     -- "every run of host pages is compared with every other": in a guest, a run in a run, the last page with the first, the first
     -- guest with the last
     ∷ "image 11 140 0000000 0001 0000 0000001 0001 0000 0"

@@ -52,6 +52,18 @@ wordsAndPages =
     ∷ "call 0 0 80 32 4000 2000" prints "0 2000 0 0 0"
     ∷ []
 
+-- the same real pages on host pages 1, 2 and 0: at the seam each word lies where its own extent says
+abbrev pub hostApart : List String
+hostApart = "image 11 240 0000001 0002 0001 0000003 0001 0000 0" ∷ []
+
+abbrev pub seamWords : List Exchange
+seamWords =
+    "store 0 5ff8 22" prints "0 0 0 0 0" setting (word 0x5ff8 0x22 ∷ [])
+    ∷ "store 0 6000 33" prints "0 0 0 0 0" setting (word 0 0x33 ∷ [])
+    ∷ "load 0 5ff8" prints "0 22 0 0 0"
+    ∷ "load 0 6000" prints "0 33 0 0 0"
+    ∷ []
+
 -- the rows that an accepted 0x31 changes. What it returns and writes is in AcceptedCalls.antt: its bytes take too long here.
 abbrev pub scrubChanges : Session → List Row
 scrubChanges s = differing (rows (s .tables)) (rows (given s "call 0 0 80 31 2000 2000" .session .tables))
@@ -80,9 +92,10 @@ statisticsCalls =
 
 pub record MemoryCases : Type 0 where
   pub words-pages : Cases 24576 twoExtents wordsAndPages
+  pub seam : Cases 24576 hostApart seamWords
   pub scrub-leaves : scrubChanges (after (empty 24576) twoExtents) ≡ []
   pub mmustat : Cases 24576 twoExtents statisticsCalls
 
 pub memory-cases : MemoryCases
 unfolding computing comparing after heard
-memory-cases = record { words-pages = refl; scrub-leaves = refl; mmustat = refl }
+memory-cases = record { words-pages = refl; seam = refl; scrub-leaves = refl; mmustat = refl }
