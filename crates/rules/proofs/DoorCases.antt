@@ -9,6 +9,7 @@ use lib.ListN.{replicate, set}
 use Rattle.rules.specs.Types.{Extent, QueueRecord, Tsb, Tsbs, Target, Source, Versions, Plant, Guest, Tables}
 use Rattle.rules.specs.Kept.{blankExtent, blankTsb, blankCpu, blankSource, blankGuest, noVersions, sourceAt, withPlant, withVersions, withSource, withQueue, withCtx0, withCtxnon0, withStatistics, withEnabled, withState, withTarget, withCookie}
 use Rattle.rules.specs.Statuses.{numbers}
+use Rattle.rules.specs.Tables.{keepRules}
 use Rattle.rules.specs.Host.{hostEvent}
 use Rattle.rules.proofs.Computing.{computing}
 use Rattle.rules.specs.Text.{bytesOf}
@@ -75,6 +76,13 @@ only t = ctx0 0 (listed 1 (t ∷ replicate 3 blankTsb))
 
 abbrev pub behind : Tsb → Tables
 behind t = ctx0 0 (listed 1 (rightTsb ∷ t ∷ replicate 2 blankTsb))
+
+-- a descriptor of 32 pages, where guest 0 has so many
+abbrev pub spread : ℕ → Tables
+spread pages = placed 0 (record {
+  extents = record { extents = 1; extent = run 0 pages 3 ∷ replicate 3 blankExtent };
+  plant = withCtx0 (guest0 .plant) 0 (listed 1 (tsb 0 1 16384 0 1 0 ∷ replicate 3 blankTsb));
+})
 
 abbrev pub statistics : ℕ → ℕ → Tables
 statistics c address = plants (withStatistics (guest0 .plant) c address)
@@ -194,6 +202,7 @@ broken =
     ∷ only (tsb 0 1 512 1 1 0)
     ∷ only (tsb 0 1 512 0 1 0x10)
     ∷ only (tsb 0 1 512 0 1 0x2000)
+    ∷ spread 31
     ∷ ctx0 1 (listed 4 (replicate 3 rightTsb ++ (blankTsb ∷ [])))
     ∷ ctxnon0 1 (listed 1 (replicate 4 blankTsb))
     -- "two TSB lists of at most 4"; list places behind the count: each of their fields
@@ -301,6 +310,7 @@ noCaller =
 pub record DoorCases : Type 0 where
   pub bad-tables : statuses broken ≡ each-answers 101 broken
   pub right-tables : statuses right ≡ each-answers 0 right
+  pub right-spread : keepRules (spread 32) ≡ true
   pub before-memory : numbers (hostEvent (statistics 0 0x41) [] (loading 9 0) .answer) ≡ 101 ∷ 0 ∷ 0 ∷ 0 ∷ 0 ∷ []
   pub short-memory : Cases 16383 worked shortMemory
   pub one-short : Cases 24575 apart oneShort
@@ -312,6 +322,7 @@ unfolding computing comparing after heard many statuses each-answers
 door-cases = record {
   bad-tables = refl;
   right-tables = refl;
+  right-spread = refl;
   before-memory = refl;
   short-memory = refl;
   one-short = refl;

@@ -110,16 +110,21 @@ outputs (r ∷ rs) = record { input = r .input; printed = output (r .input) } �
 abbrev pub callOneToNine : Call
 callOneToNine = record { guest = 1; cpu = 2; trap = 3; function = 4; arg0 = 5; arg1 = 6; arg2 = 7; arg3 = 8; arg4 = 9 }
 
+-- "Only the five arguments of a call may be missing, and are then 0."
+abbrev pub callOneToFour : Call
+callOneToFour = record { guest = 1; cpu = 2; trap = 3; function = 4; arg0 = 0; arg1 = 0; arg2 = 0; arg3 = 0; arg4 = 0 }
+
 pub record TextCases : Type 0 where
   pub bad-lines : Cases 8192 onePage badLines
   pub good-lines : Cases 8192 onePage goodLines
   pub whole-inputs : outputs runs ≡ runs
   pub memory-size : length (begin .memory) ≡ 32768
   pub call-fields : parse (bytesOf "call 1 2 3 4 5 6 7 8 9") ≡ event (Event.Call callOneToNine)
+  pub call-missing : parse (bytesOf "call 1 2 3 4") ≡ event (Event.Call callOneToFour)
 
 pub text-cases : TextCases
 unfolding computing comparing after heard outputs
-text-cases = record { bad-lines = refl; good-lines = refl; whole-inputs = refl; memory-size = refl; call-fields = refl }
+text-cases = record { bad-lines = refl; good-lines = refl; whole-inputs = refl; memory-size = refl; call-fields = refl; call-missing = refl }
 
 -- "lines of at most 2,048 bytes": a line of 2,048 is read by its pieces, whatever they are, and one of 2,049 is bad
 pub longest-line : parse (replicate 2048 0x20) ≡ lineOf (pieces [] (replicate 2048 0x20))
