@@ -58,10 +58,10 @@ hostApart = "image 11 240 0000001 0002 0001 0000003 0001 0000 0" ∷ []
 
 abbrev pub seamWords : List Exchange
 seamWords =
-    "store 0 5ff8 22" prints "0 0 0 0 0" setting (word 0x5ff8 0x22 ∷ [])
-    ∷ "store 0 6000 ff" prints "0 0 0 0 0" setting (word 0 0xff ∷ [])
-    ∷ "load 0 5ff8" prints "0 22 0 0 0"
-    ∷ "load 0 6000" prints "0 ff 0 0 0"
+    "store 0 5ff8 f" prints "0 0 0 0 0" setting (word 0x5ff8 0xf ∷ [])
+    ∷ "store 0 6000 1122334455667788" prints "0 0 0 0 0" setting (word 0 0x1122_3344_5566_7788 ∷ [])
+    ∷ "load 0 5ff8" prints "0 f 0 0 0"
+    ∷ "load 0 6000" prints "0 1122334455667788 0 0 0"
     ∷ []
 
 -- the rows that an accepted 0x31 changes. What it returns and writes is in AcceptedCalls.antt: its bytes take too long here.
