@@ -45,9 +45,9 @@ wrong =
     ∷ "image 21"
     ∷ "image 10"
     ∷ "image 15"
-    -- cpus 0 and 9, extents 0 and 5, sources 17
-    ∷ "image 11 00"
-    ∷ "image 11 90"
+    -- cpus 0 and 9 with one extent, extents 0 and 5, sources 17
+    ∷ "image 11 02"
+    ∷ "image 11 92"
     ∷ "image 11 10"
     ∷ "image 11 1a"
     ∷ "image 11 131 0"
