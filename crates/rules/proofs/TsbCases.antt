@@ -130,6 +130,7 @@ descriptors =
     ∷ descriptor 1 1 512 0 3 0x2000 6
     ∷ descriptor 1 1 512 0 0x28 0x2000 6
     ∷ descriptor 3 1 512 0 1 0x2010 6
+    ∷ descriptor 5 1 512 0 0x2b 0x2000 6
     -- "base not a multiple of 16·entries EBADALIGN", before the range
     ∷ descriptor 0 1 512 0 1 0x2010 8
     ∷ descriptor 0 1 1024 0 1 0x2000 8
