@@ -141,17 +141,12 @@ fn inside_mask(mask: u32) -> bool
     true
 }
 
-// A page index, and the lowest bit set in the mask.
+// A page index, and the lowest bit set in the mask: with k zeros below it, it is bit k. A mask of 0 has 32 zeros; 32 is no page index.
 fn is_lowest_index(mask: u32, index: u16) -> bool
     ensures { λ r. ⌜ r ≡ lowestIndex mask index ⌝ }
 {
-    match index {
-        0 => mask % 2 == 1,
-        1 => mask % 4 == 2,
-        3 => mask % 16 == 8,
-        5 => mask % 64 == 32,
-        _ => false,
-    }
+    let lowest = u32::trailing_zeros(mask);
+    is_page_index(index as u32) & (index as u32 == lowest)
 }
 
 // A TSB descriptor, as 0x20 and 0x21 accept it.

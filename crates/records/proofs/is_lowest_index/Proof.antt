@@ -1,30 +1,14 @@
--- `records::is_lowest_index` meets its contract: each of the four indexes has its own remainder.
-use mathlib.Core.Path.{refl}
-use Rattle.rules.specs.Tsb.{isPageIndex}
-use Rattle.records.proofs.Masks.{lowest-at, lowest-none}
+-- `records::is_lowest_index` meets its contract: a page index that is the count of the zeros below the lowest bit set.
+use borrow.Author.Needs.{needs}
+use Rattle.records.proofs.Masks.{lowest-counted}
 use Rattle.records.proofs.is_lowest_index.Statement.{statement}
 use Rattle.records.proofs.is_lowest_index.Tie as tie
 
+is-page-index-requires : tie.Need-is-page-index-requires
+is-page-index-requires c κs = search needs
+
 returns : tie.Need-returns
-unfolding isPageIndex
-returns c = lowest-at _ _ 0 (c .match .keys1) refl
-
-returns-2 : tie.Need-returns-2
-unfolding isPageIndex
-returns-2 c = lowest-at _ _ 1 (c .match .keys2) refl
-
-returns-3 : tie.Need-returns-3
-unfolding isPageIndex
-returns-3 c = lowest-at _ _ 3 (c .match .keys3) refl
-
-returns-4 : tie.Need-returns-4
-unfolding isPageIndex
-returns-4 c = lowest-at _ _ 5 (c .match .keys4) refl
-
-returns-5 : tie.Need-returns-5
-returns-5 c =
-    let r = c .match .rest in
-    lowest-none _ _ (r .0 .0 .0 .1) (r .0 .0 .1) (r .0 .1) (r .1)
+returns c = lowest-counted _ _ _ (c .is-page-index .ensures)
 
 pub is-lowest-index-spec : {M : Type 1} → statement M
-is-lowest-index-spec = tie.close (tie.spec returns returns-2 returns-3 returns-4 returns-5)
+is-lowest-index-spec = tie.close (tie.spec is-page-index-requires returns)
