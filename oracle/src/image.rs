@@ -1,7 +1,7 @@
 //! Loading a partition image.
 
 use crate::model::Status;
-use crate::tables::{Extent, Guest, Source, SourceState, Tables};
+use crate::tables::{Extent, Guest, Source, SourceState, Tables, EXTENT_LIMIT};
 use std::ops::RangeInclusive;
 
 const REAL_PAGES: u64 = 1 << 28;
@@ -76,7 +76,7 @@ fn read_guests(bits: &mut BitReader) -> Result<Vec<Guest>, Status> {
 
 fn read_guest(bits: &mut BitReader) -> Result<Guest, Status> {
     let cpus = bits.limited(4, 1..=8)?;
-    let extents = bits.limited(3, 1..=4)?;
+    let extents = bits.limited(3, 1..=EXTENT_LIMIT)?;
     let sources = bits.limited(5, 0..=16)?;
     let extents = (0..extents)
         .map(|_| read_extent(bits))

@@ -77,7 +77,7 @@ apart-present e p =
     apart-of (present e) (λ i l.
     rw (at-there e i (omega arith), at-there e (suc i) l) (omega (arith, ascend-at e i p (there e (suc i) l))))
 
--- The host's runs of pages: extent i of guest g is run 4·g + i.
+-- The host's runs of pages: extent i of guest g is run extentLimit·g + i.
 
 module _ (tables : Tables) where
   abbrev held : ℕ → ℕ → Extent

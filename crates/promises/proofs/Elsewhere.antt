@@ -12,12 +12,13 @@ use Rattle.rules.specs.declared.Owner.{Owner}
 use Rattle.rules.specs.declared.Place.{Place}
 use Rattle.rules.specs.declared.Refusal.the-variants.{NoSource}
 use Rattle.rules.specs.declared.Tables.{Tables}
-use Rattle.rules.specs.Kept.{blankExtent, blankCpu, blankSource, blankGuest, noVersions}
+use Rattle.rules.specs.Kept.{blankCpu, blankSource, blankGuest, noVersions}
 use Rattle.rules.specs.Real.{located, byteThere, byteAt}
 use Rattle.rules.specs.Rulings.{granted}
 use Rattle.rules.specs.Image.{readImage}
 use Rattle.rules.specs.Host.{ownerOf, longEnough, hostEvent}
 use Rattle.rules.proofs.Computing.{computing}
+use Rattle.rules.proofs.Worked.{run, inPlaces}
 use Rattle.rules.proofs.Examples.{workedImage, workedGuest, workedTables, call, ring}
 use Rattle.rules.proofs.AcceptedCalls.{storing, loading}
 use Rattle.kept.proofs.Accepted.{past-blank}
@@ -37,7 +38,7 @@ abbrev pub otherTables : Tables
 otherTables = record {
   guests = 2;
   guest = workedGuest 2 3 0x100 ∷ record {
-    extents = record { extents = 1; extent = record { real = 0; count = 2; host = 0 } ∷ replicate 3 blankExtent };
+    extents = record { extents = 1; extent = inPlaces (run 0 2 0 ∷ []) };
     plant = record { versions = noVersions; cpus = 1; cpu = replicate 8 blankCpu; sources = 0; source = replicate 16 blankSource };
   } ∷ blankGuest ∷ blankGuest ∷ [];
 }

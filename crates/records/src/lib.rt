@@ -4,6 +4,7 @@ pub mod blank;
 
 ghost use mathlib.Core.Path.{_≡_};
 ghost use Prim.Native.Nat.{_/_, _%_, _^_, _≤_, _<_};
+ghost use Rattle.rules.specs.Limits.{extentLimit};
 ghost use Rattle.rules.specs.Kept.{present};
 ghost use Rattle.rules.specs.Real.{valid};
 ghost use Rattle.rules.specs.Scan.{power-of-two_from_to_};
@@ -65,7 +66,7 @@ fn tsb_entries(n: u32) -> bool
 
 // A ring of n entries from base on, as 0x14 accepts it.
 pub fn judge_ring(e: Extents, base: u64, n: u64) -> Verdict
-    requires { ⌜ e .extents ≤ 4 ⌝ }
+    requires { ⌜ e .extents ≤ extentLimit ⌝ }
     ensures { λ r. ⌜ r ≡ verdictOf (newRing (valid (present e)) base n) ⌝ }
 {
     if !ring_entries(n) {
@@ -83,7 +84,7 @@ pub fn judge_ring(e: Extents, base: u64, n: u64) -> Verdict
 
 // A statistics address, as 0x102 accepts it.
 pub fn judge_statistics(e: Extents, address: u64) -> Verdict
-    requires { ⌜ e .extents ≤ 4 ⌝ }
+    requires { ⌜ e .extents ≤ extentLimit ⌝ }
     ensures { λ r. ⌜ r ≡ verdictOf (newStatistics (valid (present e)) address) ⌝ }
 {
     if address == 0 {
@@ -151,7 +152,7 @@ fn is_lowest_index(mask: u32, index: u16) -> bool
 
 // A TSB descriptor, as 0x20 and 0x21 accept it.
 pub fn judge_tsb(e: Extents, t: Tsb) -> Verdict
-    requires { ⌜ e .extents ≤ 4 ⌝ }
+    requires { ⌜ e .extents ≤ extentLimit ⌝ }
     ensures { λ r. ⌜ r ≡ verdictOf (judgedTsb (valid (present e)) t) ⌝ }
 {
     if !is_page_index(t.index as u32) {

@@ -5,6 +5,7 @@ use Prim.Native.Nat.{ℕ, zero, suc, _+_, _*_, _/_}
 use lib.Dec.{eqb}
 use lib.ListN.{getD}
 use Rattle.rules.specs.Types.{Extent, QueueRecord, Tsb, Tsbs, Cpu, Target, Source, Versions, Plant, Guest, Tables}
+use Rattle.rules.specs.Limits.{extentLimit}
 use Rattle.rules.specs.Kept.{guestAt, extentAt, cpuAt, queueAt, tsbAt, sourceAt}
 use Rattle.rules.specs.Text.{same}
 use Rattle.rules.specs.Session.{Session}
@@ -87,7 +88,7 @@ guestRows g guest =
     let plant : Plant = guest .plant in
     let v : Versions = plant .versions in
     (counts g (plant .cpus) (plant .sources) (guest .extents .extents) ∷ majors g (v .sun4v) (v .core) (v .interrupt) (v .statistics) ∷ [])
-    ++ each 4 (λ i. let x : Extent = extentAt (guest .extents) i in extent g i (x .real) (x .count) (x .host) ∷ [])
+    ++ each extentLimit (λ i. let x : Extent = extentAt (guest .extents) i in extent g i (x .real) (x .count) (x .host) ∷ [])
     ++ each (plant .cpus) (λ c. cpuRows g c (cpuAt plant c))
     ++ each (plant .sources) (λ i. sourceRows g i (sourceAt plant i))
 

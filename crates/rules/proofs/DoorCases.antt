@@ -3,17 +3,19 @@
 use mathlib.Core.Path.{_≡_, refl}
 use mathlib.Core.Bool.{Bool, true, false}
 use mathlib.Core.List.{List, [], _∷_, _++_}
-use Prim.Native.Nat.{ℕ, zero, suc, _+_}
+use Prim.Native.Nat.{ℕ, zero, suc, _+_, _-_, _*_}
 use Prim.Native.String.{String}
 use lib.ListN.{replicate, set}
 use Rattle.rules.specs.Types.{Extent, QueueRecord, Tsb, Tsbs, Target, Source, Versions, Plant, Guest, Tables}
+use Rattle.rules.specs.Limits.{extentLimit, pageSize}
 use Rattle.rules.specs.Kept.{blankExtent, blankTsb, blankCpu, blankSource, blankGuest, noVersions, sourceAt, withPlant, withVersions, withSource, withQueue, withCtx0, withCtxnon0, withStatistics, withEnabled, withState, withTarget, withCookie}
 use Rattle.rules.specs.Statuses.{numbers}
+use Rattle.rules.specs.Image.{filled}
 use Rattle.rules.specs.Tables.{keepRules}
 use Rattle.rules.specs.Host.{hostEvent}
 use Rattle.rules.proofs.Computing.{computing}
 use Rattle.rules.specs.Text.{bytesOf}
-use Rattle.rules.proofs.Worked.{workedGuest, loading}
+use Rattle.rules.proofs.Worked.{run, inPlaces, workedGuest, loading}
 use Rattle.rules.proofs.Changes.{comparing}
 use Rattle.rules.proofs.Sessions.{Exchange, _prints_, after, heard, Cases}
 
@@ -30,7 +32,7 @@ base = record { guests = 2; guest = guest0 ∷ guest1 ∷ blankGuest ∷ blankGu
 abbrev pub counting : ℕ → List Guest → Tables
 counting guests list = record { guests = guests; guest = list }
 
--- another record in a guest's place; guest 0 with another plant, other extents, other versions
+-- another record in a guest's place; guest 0 with another plant; with extents in the first of its places, of which so many count
 abbrev pub placed : ℕ → Guest → Tables
 placed g guest = record { guests = 2; guest = set (base .guest) g guest }
 
@@ -38,10 +40,11 @@ abbrev pub plants : Plant → Tables
 plants plant = withPlant base 0 plant
 
 abbrev pub extended : ℕ → List Extent → Tables
-extended count list = placed 0 (record { extents = record { extents = count; extent = list }; plant = guest0 .plant })
+extended count list = placed 0 (record { extents = record { extents = count; extent = inPlaces list }; plant = guest0 .plant })
 
-abbrev pub run : ℕ → ℕ → ℕ → Extent
-run real count host = record { real = real; count = count; host = host }
+-- the places of a guest with these extents, and with one more in the last of them
+abbrev pub lastPlace : List Extent → Extent → List Extent
+lastPlace list x = set (inPlaces list) (extentLimit - 1) x
 
 abbrev pub at : ℕ → ℕ → ℕ → ℕ → Versions
 at sun4v core interrupt statistics = record { sun4v = sun4v; core = core; interrupt = interrupt; statistics = statistics }
@@ -80,7 +83,7 @@ behind t = ctx0 0 (listed 1 (rightTsb ∷ t ∷ replicate 2 blankTsb))
 -- a descriptor of 32 pages, where guest 0 has so many
 abbrev pub spread : ℕ → Tables
 spread pages = placed 0 (record {
-  extents = record { extents = 1; extent = run 0 pages 3 ∷ replicate 3 blankExtent };
+  extents = record { extents = 1; extent = inPlaces (run 0 pages 3 ∷ []) };
   plant = withCtx0 (guest0 .plant) 0 (listed 1 (tsb 0 1 16384 0 1 0 ∷ replicate 3 blankTsb));
 })
 
@@ -114,7 +117,7 @@ supported s = described (s .devhandle) (s .devino) true s
 abbrev pub unsupported : ℕ → Source → Source
 unsupported cookie s = withCookie (described (s .devhandle) (s .devino) false s) cookie
 
--- n sources that are told apart by devino; four guests
+-- n sources that are told apart by devino
 unfoldable pub many : ℕ → List Source
 many zero = []
 many (suc n) = called 0x300 n blankSource ∷ many n
@@ -122,11 +125,13 @@ many (suc n) = called 0x300 n blankSource ∷ many n
 abbrev pub full : ℕ → Plant
 full sources = record { versions = noVersions; cpus = 8; cpu = replicate 8 blankCpu; sources = sources; source = many 16 }
 
+-- as many extents as a guest can have, of a page each: the first two touch in real pages, and all of them on the host, from page 3 on
 abbrev pub fullGuest : Guest
-fullGuest = record { extents = record { extents = 4; extent = run 0 1 3 ∷ run 1 1 4 ∷ run 5 2 5 ∷ run 9 1 8 ∷ [] }; plant = full 16 }
+fullGuest = record { extents = record { extents = extentLimit; extent = filled extentLimit blankExtent (λ i. run (i * i) 1 (3 + i)) extentLimit }; plant = full 16 }
 
+-- four guests
 abbrev pub four : List Guest
-four = guest0 ∷ guest1 ∷ fullGuest ∷ workedGuest 1 7 0x400 ∷ []
+four = guest0 ∷ guest1 ∷ fullGuest ∷ workedGuest 1 0 0x400 ∷ []
 
 -- an absent guest's place with something in it
 abbrev pub ghost : Plant → Tables
@@ -138,8 +143,8 @@ broken =
     -- "Guests 0 to 3"
     counting 5 four
     -- "the records of absent guests .. stay so": extents, versions, counts, a cpu's record, a source's
-    ∷ placed 3 (record { extents = record { extents = 1; extent = replicate 4 blankExtent }; plant = blankGuest .plant })
-    ∷ placed 3 (record { extents = record { extents = 0; extent = replicate 3 blankExtent ++ (run 1 0 0 ∷ []) }; plant = blankGuest .plant })
+    ∷ placed 3 (record { extents = record { extents = 1; extent = inPlaces [] }; plant = blankGuest .plant })
+    ∷ placed 3 (record { extents = record { extents = 0; extent = lastPlace [] (run 1 0 0) }; plant = blankGuest .plant })
     ∷ ghost (withVersions (blankGuest .plant) (at 1 0 0 0))
     ∷ ghost (withVersions (blankGuest .plant) (at 0 1 0 0))
     ∷ ghost (withVersions (blankGuest .plant) (at 0 0 1 0))
@@ -152,21 +157,21 @@ broken =
     ∷ plants (counted 0 1 (guest0 .plant))
     ∷ plants (counted 9 1 (guest0 .plant))
     ∷ plants (full 17)
-    ∷ extended 0 (replicate 4 blankExtent)
+    ∷ extended 0 []
     -- "page count at least 1; real page plus count at most 2^28; host page plus count at most 65,536"
-    ∷ extended 1 (run 0 0 1 ∷ replicate 3 blankExtent)
-    ∷ extended 1 (run 0xfff_ffff 2 5 ∷ replicate 3 blankExtent)
-    ∷ extended 1 (run 0 2 0xffff ∷ replicate 3 blankExtent)
+    ∷ extended 1 (run 0 0 1 ∷ [])
+    ∷ extended 1 (run 0xfff_ffff 2 5 ∷ [])
+    ∷ extended 1 (run 0 2 0xffff ∷ [])
     -- "a guest's extents ascend in real page without overlap"
-    ∷ extended 2 (run 8 1 1 ∷ run 0 1 5 ∷ replicate 2 blankExtent)
-    ∷ extended 2 (run 0 2 5 ∷ run 1 1 1 ∷ replicate 2 blankExtent)
+    ∷ extended 2 (run 8 1 1 ∷ run 0 1 5 ∷ [])
+    ∷ extended 2 (run 0 2 5 ∷ run 1 1 1 ∷ [])
     -- "every run of host pages is compared with every other"; "no two sources on the host have the same devhandle and devino"
-    ∷ extended 1 (run 0 1 2 ∷ replicate 3 blankExtent)
+    ∷ extended 1 (run 0 1 2 ∷ [])
     ∷ sourced 0 0 (λ s. called 0x200 5 s)
     -- absent extents: on the host, page 0 is nobody's
-    ∷ extended 1 (run 0 1 1 ∷ run 8 0 0 ∷ replicate 2 blankExtent)
-    ∷ extended 1 (run 0 1 1 ∷ blankExtent ∷ run 0 1 0 ∷ blankExtent ∷ [])
-    ∷ extended 1 (run 0 1 1 ∷ replicate 2 blankExtent ++ (run 0 0 1 ∷ []))
+    ∷ extended 1 (run 0 1 1 ∷ run 8 0 0 ∷ [])
+    ∷ extended 1 (run 0 1 1 ∷ blankExtent ∷ run 0 1 0 ∷ [])
+    ∷ extended 1 (lastPlace (run 0 1 1 ∷ []) (run 0 0 1))
     -- absent cpus: a queue record, both lists with their counts and places, the statistics address
     ∷ ringed 2 0 0x80 128 0 0
     ∷ ringed 7 3 0x80 128 0 0
@@ -256,10 +261,10 @@ right =
     ∷ sourced 2 0 (λ s. withTarget s (Target.Cpu 1))
     ∷ []
 
--- what a load answers on each of some tables; and a status with four zeros for each
+-- what a load answers on each of some tables, with memory up to the last extent's end; and a status with four zeros for each
 unfoldable pub statuses : List Tables → List (List ℕ)
 statuses [] = []
-statuses (t ∷ ts) = numbers (hostEvent t (replicate 73728 0) (loading 0 0) .answer) ∷ statuses ts
+statuses (t ∷ ts) = numbers (hostEvent t (replicate (pageSize * (3 + extentLimit)) 0) (loading 0 0) .answer) ∷ statuses ts
 
 unfoldable pub each-answers : ℕ → List Tables → List (List ℕ)
 each-answers status [] = []

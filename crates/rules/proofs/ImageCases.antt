@@ -5,10 +5,11 @@ use mathlib.Core.List.{List, [], _∷_}
 use Prim.Native.Nat.{ℕ}
 use Prim.Native.String.{String, _++_}
 use lib.ListN.{replicate, length}
-use Rattle.rules.specs.Types.{Extent, Cpu, Target, Guest, Tables}
-use Rattle.rules.specs.Kept.{blankExtent, blankCpu, blankSource, blankGuest, noVersions, guestAt, cpuAt}
+use Rattle.rules.specs.Types.{Cpu, Target, Guest, Tables}
+use Rattle.rules.specs.Kept.{blankCpu, blankSource, blankGuest, noVersions, guestAt, cpuAt}
 use Rattle.rules.proofs.Computing.{computing}
 use Rattle.rules.specs.Text.{bytesOf}
+use Rattle.rules.proofs.Worked.{run, inPlaces}
 use Rattle.rules.proofs.Changes.{comparing, guests, majors, word}
 use Rattle.rules.proofs.Sessions.{Exchange, _prints_, _prints_setting_, empty, given, after, heard, Cases}
 
@@ -101,10 +102,6 @@ right =
     ∷ "image 11 120 0000000 0001 ffff"
     ∷ []
 
--- extents and sources as they are loaded
-abbrev pub run : ℕ → ℕ → ℕ → Extent
-run real count host = record { real = real; count = count; host = host }
-
 -- "After loading, all is unset, disabled, idle and 0": two guests, with the last numbers that the fields hold
 abbrev pub lastNumbers : String
 lastNumbers = "image 12 842 0000001 0002 0003 0000003 0001 0001 fffffff ff 0000001 80 120 fffffff 0001 ffff 0"
@@ -114,7 +111,7 @@ loadedTables = record {
   guests = 2;
   guest =
       record {
-        extents = record { extents = 2; extent = run 1 2 3 ∷ run 3 1 1 ∷ blankExtent ∷ blankExtent ∷ [] };
+        extents = record { extents = 2; extent = inPlaces (run 1 2 3 ∷ run 3 1 1 ∷ []) };
         plant = record {
           versions = noVersions;
           cpus = 8;
@@ -127,7 +124,7 @@ loadedTables = record {
         };
       }
       ∷ record {
-        extents = record { extents = 1; extent = run 0xfff_ffff 1 0xffff ∷ replicate 3 blankExtent };
+        extents = record { extents = 1; extent = inPlaces (run 0xfff_ffff 1 0xffff ∷ []) };
         plant = record { versions = noVersions; cpus = 1; cpu = replicate 8 blankCpu; sources = 0; source = replicate 16 blankSource };
       }
       ∷ blankGuest

@@ -1,9 +1,10 @@
 -- The worked session's image and tables, and events by their numbers.
 use mathlib.Core.Bool.{true}
-use mathlib.Core.List.{List, [], _∷_}
-use Prim.Native.Nat.{ℕ}
-use lib.ListN.{replicate}
-use Rattle.rules.specs.Types.{Target, Guest, Tables, Event}
+use mathlib.Core.List.{List, [], _∷_, _++_}
+use Prim.Native.Nat.{ℕ, _-_}
+use lib.ListN.{length, replicate}
+use Rattle.rules.specs.Types.{Extent, Target, Guest, Tables, Event}
+use Rattle.rules.specs.Limits.{extentLimit}
 use Rattle.rules.specs.Kept.{blankExtent, blankCpu, blankSource, blankGuest, noVersions}
 
 -- the image of the session's first line
@@ -12,10 +13,17 @@ workedImage =
     0x12 ∷ 0x22 ∷ 0x10 ∷ 0x00 ∷ 0x00 ∷ 0x00 ∷ 0x00 ∷ 0x01 ∷ 0x00 ∷ 0x00 ∷ 0x00 ∷ 0x00 ∷ 0x10 ∷ 0x00 ∷ 0xb1
     ∷ 0x21 ∷ 0x00 ∷ 0x00 ∷ 0x00 ∷ 0x00 ∷ 0x00 ∷ 0x10 ∷ 0x00 ∷ 0x10 ∷ 0x00 ∷ 0x02 ∷ 0x00 ∷ 0x0b ∷ []
 
+-- an extent; and all the places that a guest has for extents, with these in the first of them
+abbrev pub run : ℕ → ℕ → ℕ → Extent
+run real count host = record { real = real; count = count; host = host }
+
+abbrev pub inPlaces : List Extent → List Extent
+inPlaces list = list ++ replicate (extentLimit - length list) blankExtent
+
 -- a guest of the image: its cpus, one page at real 0 on a host page, and one source of devino 5 that supports cookies
 abbrev pub workedGuest : ℕ → ℕ → ℕ → Guest
 workedGuest cpus host devhandle = record {
-  extents = record { extents = 1; extent = record { real = 0; count = 1; host = host } ∷ replicate 3 blankExtent };
+  extents = record { extents = 1; extent = inPlaces (run 0 1 host ∷ []) };
   plant = record {
     versions = noVersions;
     cpus = cpus;

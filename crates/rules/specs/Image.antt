@@ -100,7 +100,7 @@ ascend extents =
     allBelow (extents .extents) (λ i.
     eqb i 0 || leb (extentAt extents (i - 1) .real + extentAt extents (i - 1) .count) (extentAt extents i .real))
 
--- run k of the host's runs of pages: extent k % 4 of guest k / 4; one that is absent has no page
+-- run k of the host's runs of pages, one guest's places for extents behind another's; one that is absent has no page
 unfoldable pub runAt : Tables → ℕ → Extent
 runAt tables k = extentAt (guestAt tables (k / extentLimit) .extents) (k % extentLimit)
 

@@ -127,6 +127,14 @@ fn set_extent(t: Tables, i: usize, field: u64, v: u64) -> Tables {
     with_extents(t, extents)
 }
 
+// Records 0x10 and up are the places behind the first three.
+fn set_later_extent(t: Tables, record: u64, field: u64, v: u64) -> Tables {
+    if record < 16 {
+        return t;
+    }
+    set_extent(t, 3 + (record - 16) as usize, field, v)
+}
+
 // 0xff stands for no target.
 fn with_target(old: Source, v: u64) -> Source {
     let target = if v == 0xff {
@@ -304,6 +312,7 @@ pub(crate) fn drafted(t: Tables, to: StoreAt) -> Tables {
         7 => set_source(t, 2, field, v),
         8 | 10..=13 => set_cpu(t, 0, record, field, v),
         9 | 14 => set_cpu(t, 2, record, field, v),
-        _ => set_absent(t, field, v),
+        15 => set_absent(t, field, v),
+        _ => set_later_extent(t, record, field, v),
     }
 }

@@ -1,5 +1,6 @@
 // Whether two tables are the same in every field.
 use rules::Cpu;
+use rules::EXTENTS;
 use rules::Extent;
 use rules::Extents;
 use rules::Guest;
@@ -22,11 +23,13 @@ fn same_extent(a: Extent, b: Extent) -> bool {
 fn same_extents(a: Extents, b: Extents) -> bool {
     let p = a.extent;
     let q = b.extent;
-    (a.extents == b.extents)
-        & same_extent(p[0], q[0])
-        & same_extent(p[1], q[1])
-        & same_extent(p[2], q[2])
-        & same_extent(p[3], q[3])
+    let mut same = a.extents == b.extents;
+    let mut i = 0;
+    while i < EXTENTS {
+        same = same & same_extent(p[i], q[i]);
+        i += 1;
+    }
+    same
 }
 
 fn same_ring(a: Ring, b: Ring) -> bool {

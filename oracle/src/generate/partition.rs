@@ -1,6 +1,7 @@
 //! Partition images: sound ones of many shapes, and damaged ones.
 
 use super::random::Random;
+use crate::tables::EXTENT_LIMIT;
 
 const REAL_PAGES: u64 = 1 << 28;
 const HOST_PAGES: u64 = 1 << 16;
@@ -320,7 +321,7 @@ fn shared_out(mut runs: Vec<Run>, count: usize, random: &mut Random) -> Vec<Vec<
             false if i < count => i,
             false => random.index(count),
         };
-        if shares[share].len() < 4 {
+        if shares[share].len() < EXTENT_LIMIT as usize {
             shares[share].push(run);
         }
     }

@@ -3,7 +3,7 @@
 //! cannot: they have no room for a fifth guest or an `enabled` of 2.
 
 use crate::model::Host;
-use crate::tables::{Extent, Group, Guest, Ring, Source, TsbDescriptor};
+use crate::tables::{Extent, Group, Guest, Ring, Source, TsbDescriptor, EXTENT_LIMIT};
 use std::collections::HashMap;
 
 const COUNTS: u64 = 0;
@@ -17,6 +17,7 @@ const OTHER_TSBS: u64 = 0xc;
 const STATISTICS: u64 = 0xd;
 const ABSENT_STATISTICS: u64 = 0xe;
 const ABSENT_GUEST: u64 = 0xf;
+const LATER_EXTENTS: u64 = 0x10;
 const NO_TARGET: u64 = 0xff;
 const BLANK_SOURCE: [u64; 7] = [0, 0, 0, 0, 0, NO_TARGET, 0];
 
@@ -68,8 +69,8 @@ impl Draft {
             Group::Statistics,
         ];
         self.set_all(VERSIONS, &groups.map(|group| guest.major(group)));
-        for (place, e) in (EXTENTS..).zip(&guest.extents) {
-            self.set_all(place, &[e.real_page, e.pages, e.host_page]);
+        for (place, e) in (0..).zip(&guest.extents) {
+            self.set_all(extent_record(place), &[e.real_page, e.pages, e.host_page]);
         }
         for (place, s) in (SOURCES..).zip(&guest.sources) {
             self.take_source(place, s);
@@ -134,22 +135,17 @@ impl Draft {
     }
 
     fn extents(&self) -> Vec<Extent> {
-        let count = self.get(COUNTS, 2).min(4);
-        let place = |i| {
-            [0, 1, 2].map(|field| {
-                if i < 3 {
-                    self.get(EXTENTS + i, field)
-                } else {
-                    0
-                }
-            })
-        };
+        let count = self.get(COUNTS, 2).min(EXTENT_LIMIT);
         let extent = |[real_page, pages, host_page]: [u64; 3]| Extent {
             real_page,
             pages,
             host_page,
         };
-        (0..count).map(|i| extent(place(i))).collect()
+        (0..count).map(|i| extent(self.extent(i))).collect()
+    }
+
+    fn extent(&self, place: u64) -> [u64; 3] {
+        [0, 1, 2].map(|field| self.get(extent_record(place), field))
     }
 
     fn clashes(&self, neighbour: &Guest) -> bool {
@@ -166,7 +162,7 @@ impl Draft {
         let [cpus, extents, sources] = [1, 2, 3].map(|field| self.get(COUNTS, field));
         let majors = [0, 1, 2, 3].map(|field| self.get(VERSIONS, field));
         (1..=8).contains(&cpus)
-            && (1..=4).contains(&extents)
+            && (1..=EXTENT_LIMIT).contains(&extents)
             && sources <= 16
             && majors
                 .iter()
@@ -189,7 +185,7 @@ impl Draft {
         };
         there.iter().all(fits)
             && there.iter().enumerate().all(apart)
-            && (count..3).all(|i| (0..3).all(|field| self.get(EXTENTS + i, field) == 0))
+            && (count..EXTENT_LIMIT).all(|i| self.extent(i) == [0, 0, 0])
     }
 
     /// The places from the fourth on have no record, and are blank.
@@ -275,6 +271,14 @@ impl Draft {
 
     fn statistics_right(&self, address: u64) -> bool {
         address == 0 || address.is_multiple_of(64) && self.valid(address, 512)
+    }
+}
+
+/// The record that has a place of the guest's extents.
+fn extent_record(place: u64) -> u64 {
+    match place {
+        0..3 => EXTENTS + place,
+        _ => LATER_EXTENTS + place - 3,
     }
 }
 

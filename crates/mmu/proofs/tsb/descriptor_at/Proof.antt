@@ -5,6 +5,7 @@ use mathlib.Core.Bool.{true}
 use Prim.Native.Nat.{ℕ, _+_, _^_, _≤_, _<_}
 use native.Mathlib.Nat.{add-zero}
 use lib.ListN.{length}
+use Rattle.rules.specs.Limits.{extentLimit}
 use Rattle.rules.specs.Real.{valid}
 use Rattle.memory.specs.Ready.{present, Ready}
 use Rattle.memory.proofs.Places.{valid-part}
@@ -18,7 +19,7 @@ ends : (s : tie.Start) → s .args .real .0 + 32 < 2 ^ 64
 ends s = range-ends (s .args .extents) _ _ _ (s .good .0) (s .pre .1 .1)
 
 within : (s : tie.Start) (k n : ℕ) → k + n ≤ 32
-    → (s .args .extents .extents ≤ 4) × (Ready (present (s .args .extents)) (length (s .args .mem .now)) × (valid (present (s .args .extents)) (s .args .real .0 + k) n ≡ true))
+    → (s .args .extents .extents ≤ extentLimit) × (Ready (present (s .args .extents)) (length (s .args .mem .now)) × (valid (present (s .args .extents)) (s .args .real .0 + k) n ≡ true))
 within s k n h = (s .pre .0, (s .pre .1 .0, valid-part _ _ _ _ _ (s .pre .1 .1) h))
 
 number2-requires : tie.Need-number2-requires
