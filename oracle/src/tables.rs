@@ -4,7 +4,7 @@ pub const PAGE_SIZE: u64 = 8192;
 pub const ENTRY_SIZE: u64 = 64;
 
 /// The most extents that a guest has.
-pub const EXTENT_LIMIT: u64 = 4;
+pub const EXTENT_LIMIT: u64 = 7;
 
 /// An address as a guest names it.
 #[derive(Clone, Copy, Debug, PartialEq, Eq)]

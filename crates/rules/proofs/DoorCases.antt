@@ -126,8 +126,11 @@ abbrev pub full : ℕ → Plant
 full sources = record { versions = noVersions; cpus = 8; cpu = replicate 8 blankCpu; sources = sources; source = many 16 }
 
 -- as many extents as a guest can have, of a page each: the first two touch in real pages, and all of them on the host, from page 3 on
+abbrev pub mostExtents : List Extent
+mostExtents = filled extentLimit blankExtent (λ i. run (i * i) 1 (3 + i)) extentLimit
+
 abbrev pub fullGuest : Guest
-fullGuest = record { extents = record { extents = extentLimit; extent = filled extentLimit blankExtent (λ i. run (i * i) 1 (3 + i)) extentLimit }; plant = full 16 }
+fullGuest = record { extents = record { extents = extentLimit; extent = mostExtents }; plant = full 16 }
 
 -- four guests
 abbrev pub four : List Guest
@@ -153,25 +156,30 @@ broken =
     ∷ ghost (counted 0 1 (blankGuest .plant))
     ∷ ghost (withStatistics (blankGuest .plant) 7 0x40)
     ∷ ghost (withSource (blankGuest .plant) 15 (withState blankSource 1))
-    -- "1 to 8 cpus"; "0 to 16 interrupt sources"; "1 to 4 extents"
+    -- "1 to 8 cpus"; "0 to 16 interrupt sources"; "1 to 4 extents", of which the limit "goes from 4 to 7"
     ∷ plants (counted 0 1 (guest0 .plant))
     ∷ plants (counted 9 1 (guest0 .plant))
     ∷ plants (full 17)
     ∷ extended 0 []
+    ∷ extended 8 mostExtents
     -- "page count at least 1; real page plus count at most 2^28; host page plus count at most 65,536"
     ∷ extended 1 (run 0 0 1 ∷ [])
     ∷ extended 1 (run 0xfff_ffff 2 5 ∷ [])
     ∷ extended 1 (run 0 2 0xffff ∷ [])
+    ∷ extended 7 (lastPlace mostExtents (run 99 0 9))
     -- "a guest's extents ascend in real page without overlap"
     ∷ extended 2 (run 8 1 1 ∷ run 0 1 5 ∷ [])
     ∷ extended 2 (run 0 2 5 ∷ run 1 1 1 ∷ [])
+    ∷ extended 7 (lastPlace mostExtents (run 24 1 9))
     -- "every run of host pages is compared with every other"; "no two sources on the host have the same devhandle and devino"
     ∷ extended 1 (run 0 1 2 ∷ [])
+    ∷ extended 7 (lastPlace mostExtents (run 99 1 3))
     ∷ sourced 0 0 (λ s. called 0x200 5 s)
     -- absent extents: on the host, page 0 is nobody's
     ∷ extended 1 (run 0 1 1 ∷ run 8 0 0 ∷ [])
     ∷ extended 1 (run 0 1 1 ∷ blankExtent ∷ run 0 1 0 ∷ [])
     ∷ extended 1 (lastPlace (run 0 1 1 ∷ []) (run 0 0 1))
+    ∷ extended 6 mostExtents
     -- absent cpus: a queue record, both lists with their counts and places, the statistics address
     ∷ ringed 2 0 0x80 128 0 0
     ∷ ringed 7 3 0x80 128 0 0
@@ -316,6 +324,7 @@ pub record DoorCases : Type 0 where
   pub bad-tables : statuses broken ≡ each-answers 101 broken
   pub right-tables : statuses right ≡ each-answers 0 right
   pub right-spread : keepRules (spread 32) ≡ true
+  pub late-extent : numbers (hostEvent (counting 4 four) (replicate (pageSize * (3 + extentLimit) - 1) 0) (loading 0 0) .answer) ≡ 102 ∷ 0 ∷ 0 ∷ 0 ∷ 0 ∷ []
   pub before-memory : numbers (hostEvent (statistics 0 0x41) [] (loading 9 0) .answer) ≡ 101 ∷ 0 ∷ 0 ∷ 0 ∷ 0 ∷ []
   pub short-memory : Cases 16383 worked shortMemory
   pub one-short : Cases 24575 apart oneShort
@@ -328,6 +337,7 @@ door-cases = record {
   bad-tables = refl;
   right-tables = refl;
   right-spread = refl;
+  late-extent = refl;
   before-memory = refl;
   short-memory = refl;
   one-short = refl;

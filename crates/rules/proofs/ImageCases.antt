@@ -22,6 +22,23 @@ unfoldable pub each-prints : String → List String → List (List ℕ)
 each-prints text [] = []
 each-prints text (line ∷ lines) = bytesOf text ∷ each-prints text lines
 
+-- six extents of a page each, apart in real pages, on host pages that descend; a guest with these and a seventh
+abbrev pub six : String
+six = " 0000000 0001 0006 0000002 0001 0005 0000004 0001 0004 0000006 0001 0003 0000008 0001 0002 000000a 0001 0001"
+
+abbrev pub sevenWith : String → String
+sevenWith last = "image 11 1e0" ++ six ++ " " ++ last
+
+-- four guests of seven extents of a page each, which touch, on host pages in a row; but for the last of all, which is told
+abbrev pub twentyEight : String → String
+twentyEight last =
+    "image 14"
+    ++ " 1e0 0000000 0001 0000 0000001 0001 0001 0000002 0001 0002 0000003 0001 0003 0000004 0001 0004 0000005 0001 0005 0000006 0001 0006"
+    ++ " 1e0 0000000 0001 0007 0000001 0001 0008 0000002 0001 0009 0000003 0001 000a 0000004 0001 000b 0000005 0001 000c 0000006 0001 000d"
+    ++ " 1e0 0000000 0001 000e 0000001 0001 000f 0000002 0001 0010 0000003 0001 0011 0000004 0001 0012 0000005 0001 0013 0000006 0001 0014"
+    ++ " 1e0 0000000 0001 0015 0000001 0001 0016 0000002 0001 0017 0000003 0001 0018 0000004 0001 0019 0000005 0001 001a 0000006 0001 "
+    ++ last
+
 -- "missing bits 110 at once"
 abbrev pub short : List String
 short =
@@ -29,6 +46,10 @@ short =
     ∷ "image 11"
     -- behind the cpus and the extents; behind the extents; in the extent; in the source
     ∷ "image 11 12"
+    -- five extents and seven are counts like another; the last bits of the seventh
+    ∷ "image 11 1a"
+    ∷ "image 11 1e"
+    ∷ sevenWith "000000c 0001 00"
     ∷ "image 11 120 0"
     ∷ "image 11 120 0000000 0001 00"
     ∷ "image 11 121 0000000 0001 0000 0000100 0"
@@ -46,31 +67,35 @@ wrong =
     ∷ "image 21"
     ∷ "image 10"
     ∷ "image 15"
-    -- cpus 0 and 9 with one extent, extents 0 and 5, sources 17
+    -- cpus 0 and 9 with one extent, extents 0, sources 17
     ∷ "image 11 02"
     ∷ "image 11 92"
     ∷ "image 11 10"
-    ∷ "image 11 1a"
     ∷ "image 11 131 0"
-    -- "page count at least 1": the first and the last extent
+    -- "page count at least 1": the first and the last extent, and the seventh
     ∷ "image 11 120 0000000 0000 0000"
     ∷ "image 11 140 0000000 0001 0000 0000001 0000 0001 0"
+    ∷ sevenWith "000000c 0000 0000"
     -- "real page plus count at most 2^28; host page plus count at most 65,536"
     ∷ "image 11 120 fffffff 0002 0000"
     ∷ "image 11 120 0000000 0002 ffff"
     -- "a guest's extents ascend in real page without overlap": the second below the first, in it, at the same page; the third
-    -- below the second, and in it
+    -- below the second, and in it; the seventh at the sixth's page
     ∷ "image 11 140 0000005 0001 0000 0000000 0001 0001 0"
     ∷ "image 11 140 0000000 0002 0000 0000001 0001 0002 0"
     ∷ "image 11 140 0000000 0001 0000 0000000 0001 0001 0"
     ∷ "image 11 160 0000000 0001 0000 0000005 0001 0001 0000001 0001 0002"
     ∷ "image 11 160 0000000 0001 0000 0000001 0002 0001 0000002 0001 0003"
+    ∷ sevenWith "000000a 0001 0000"
     -- "every run of host pages is compared with every other": in a guest, a run in a run, the last page with the first, the first
-    -- guest with the last
+    -- guest with the last; the seventh with the first and with the sixth, the last of 28 with the first
     ∷ "image 11 140 0000000 0001 0000 0000001 0001 0000 0"
     ∷ "image 11 140 0000000 0004 0000 0000008 0001 0002 0"
     ∷ "image 11 140 0000000 0001 0002 0000008 0003 0000 0"
     ∷ "image 14 120 0000000 0001 0000 120 0000000 0001 0001 120 0000000 0001 0002 120 0000000 0001 0000"
+    ∷ sevenWith "000000c 0001 0006"
+    ∷ sevenWith "000000c 0001 0001"
+    ∷ twentyEight "0000"
     -- "no two sources on the host have the same devhandle and devino": in a guest, whatever their support; in two guests
     ∷ "image 11 122 0000000 0001 0000 0000100 0b 0000100 0a"
     ∷ "image 12 121 0000000 0001 0000 0000100 0b 122 0000000 0001 0001 0000200 0b 0000100 0b 0"
@@ -81,12 +106,12 @@ wrong =
     ∷ "image 11 120 0000000 0001 0000 00"
     ∷ []
 
--- eight cpus, four extents that touch in real pages and on the host, and 16 sources
+-- eight cpus, seven extents, of which some touch in real pages and on the host, and 16 sources
 abbrev pub sixteen : String
 sixteen =
-    "image 11 890 0000000 0001 0000 0000001 0001 0001 0000002 0002 0003 0000008 0001 0002"
+    "image 11 8f0 0000000 0001 0000 0000001 0001 0001 0000002 0002 0003 0000008 0001 0002 0000009 0001 0006 000000b 0001 0005 0000010 0003 0007"
     ++ " 0000000 01 0000000 03 0000000 05 0000000 07 0000000 09 0000000 0b 0000000 0d 0000000 0f"
-    ++ " 0000001 01 0000001 03 0000001 05 0000001 07 0000001 09 0000001 0b 0000001 0d 0000001 0f 0"
+    ++ " 0000001 01 0000001 03 0000001 05 0000001 07 0000001 09 0000001 0b 0000001 0d 0000001 0f"
 
 abbrev pub right : List String
 right =
@@ -95,6 +120,10 @@ right =
     -- the limits: four guests; all that one guest can have
     ∷ "image 14 120 0000000 0001 0000 120 0000000 0001 0001 120 0000000 0001 0002 120 0000000 0001 0003"
     ∷ sixteen
+    -- "memory in six places", and in seven; 28 places on the host
+    ∷ ("image 11 1c0" ++ six ++ "0")
+    ∷ sevenWith "000000c 0001 0000"
+    ∷ twentyEight "001b"
     -- devhandle 0 and devino 0 are a source like another, though an absent one has them too
     ∷ "image 12 120 0000000 0001 0000 121 0000000 0001 0001 0000000 00 0"
     -- the last real page and the last host page
@@ -161,7 +190,7 @@ pub record ImageCases : Type 0 where
   pub wrong-ones : texts wrong ≡ each-prints "6f" wrong
   pub right-ones : texts right ≡ each-prints "0" right
   pub loaded : given (empty 0) lastNumbers .session .tables ≡ loadedTables
-  pub places : placesOf loadedTables ≡ 4 ∷ 4 ∷ 8 ∷ 4 ∷ 4 ∷ 4 ∷ 16 ∷ []
+  pub places : placesOf loadedTables ≡ 4 ∷ 7 ∷ 8 ∷ 4 ∷ 4 ∷ 4 ∷ 16 ∷ []
   pub again : Cases 8192 ("image 11 120 0000000 0001 0000" ∷ "call 0 0 ff 0 1 1 0" ∷ []) loadedAgain
 
 pub image-cases : ImageCases

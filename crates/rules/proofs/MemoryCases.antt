@@ -64,6 +64,19 @@ seamWords =
     ∷ "load 0 6000" prints "0 1122334455667788 0 0 0"
     ∷ []
 
+-- seven extents of a page each, apart in real pages, on host pages that descend: the seventh is host page 0
+abbrev pub sevenExtents : List String
+sevenExtents =
+    "image 11 1e0 0000000 0001 0006 0000002 0001 0005 0000004 0001 0004 0000006 0001 0003 0000008 0001 0002 000000a 0001 0001 000000c 0001 0000"
+    ∷ []
+
+abbrev pub lateWords : List Exchange
+lateWords =
+    "store 0 18000 a7" prints "0 0 0 0 0" setting (word 0 0xa7 ∷ [])
+    ∷ "load 0 18000" prints "0 a7 0 0 0"
+    ∷ "load 0 16000" prints "2 0 0 0 0"
+    ∷ []
+
 -- the rows that an accepted 0x31 changes. What it returns and writes is in AcceptedCalls.antt: its bytes take too long here.
 abbrev pub scrubChanges : Session → List Row
 scrubChanges s = differing (rows (s .tables)) (rows (given s "call 0 0 80 31 2000 2000" .session .tables))
@@ -93,9 +106,10 @@ statisticsCalls =
 pub record MemoryCases : Type 0 where
   pub words-pages : Cases 24576 twoExtents wordsAndPages
   pub seam : Cases 24576 hostApart seamWords
+  pub late : Cases 57344 sevenExtents lateWords
   pub scrub-leaves : scrubChanges (after (empty 24576) twoExtents) ≡ []
   pub mmustat : Cases 24576 twoExtents statisticsCalls
 
 pub memory-cases : MemoryCases
 unfolding computing comparing after heard
-memory-cases = record { words-pages = refl; seam = refl; scrub-leaves = refl; mmustat = refl }
+memory-cases = record { words-pages = refl; seam = refl; late = refl; scrub-leaves = refl; mmustat = refl }

@@ -9,8 +9,9 @@ guestLimit = 4
 abbrev pub cpuLimit : ℕ
 cpuLimit = 8
 
+-- of the extents, by request No. 6: "The limit for each guest goes from 4 to 7."
 abbrev pub extentLimit : ℕ
-extentLimit = 4
+extentLimit = 7
 
 abbrev pub sourceLimit : ℕ
 sourceLimit = 16

@@ -10,7 +10,7 @@ pub const GUESTS: usize = 4;
 
 pub const CPUS: usize = 8;
 
-pub const EXTENTS: usize = 4;
+pub const EXTENTS: usize = 7;
 
 pub const SOURCES: usize = 16;
 

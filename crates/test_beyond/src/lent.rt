@@ -2,7 +2,7 @@
 ghost use mathlib.Core.Path.{_≡_};
 ghost use lib.ListN.{length};
 
-// 32 pages, as many as the image of every section has.
+// 32 pages. The image of every section has the last of them.
 pub const MEMORY: usize = 262144;
 
 // What stands in every byte before anything is written.

@@ -74,7 +74,9 @@ image 11 -> 6e
 image 1100 -> 6f
 image 1190 -> 6f
 image 1110 -> 6f
-image 111a -> 6f
+image 1118 -> 6e
+image 111a -> 6e
+image 111e -> 6e
 image 1112 -> 6e
 image 111300 -> 6e
 image 111310 -> 6f
