@@ -12,7 +12,10 @@ impl Generator {
             self.blind_events(3);
         }
         if self.random.one_in(3) {
-            let partition = Partition::anywhere(&mut self.random);
+            let partition = match self.random.below(2) {
+                0 => Partition::anywhere(&mut self.random),
+                _ => Partition::crowded(&mut self.random),
+            };
             self.image(&partition.pack());
             self.blind_events(20);
         }
@@ -65,9 +68,10 @@ impl Generator {
     }
 
     fn damaged_image(&mut self) {
-        let partition = match self.random.below(2) {
+        let partition = match self.random.below(3) {
             0 => Partition::in_memory(&mut self.random),
-            _ => Partition::anywhere(&mut self.random),
+            1 => Partition::anywhere(&mut self.random),
+            _ => Partition::crowded(&mut self.random),
         };
         let image = match self.random.below(3) {
             0 => {

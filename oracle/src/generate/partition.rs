@@ -44,17 +44,20 @@ type Run = (u64, u64);
 impl Partition {
     /// A sound partition whose host pages all lie in the lent memory.
     pub fn in_memory(random: &mut Random) -> Partition {
-        let runs = match random.below(8) {
-            0..=2 => (0..MEMORY_PAGES).map(|page| (page, 1)).collect(),
-            3 => vec![(0, MEMORY_PAGES)],
-            _ => runs_in_memory(random),
-        };
-        Partition::over(runs, random)
+        let shares = shares_in_memory(random);
+        Partition::over(&shares, random)
     }
 
-    /// A sound partition of which one extent lies behind the lent memory.
+    /// A sound partition of which one extent lies behind the lent memory, or
+    /// all those of one guest that come after the ones in it.
     pub fn reaching_out(random: &mut Random) -> Partition {
-        let mut partition = Partition::in_memory(random);
+        let mut shares = shares_in_memory(random);
+        if random.one_in(2) {
+            let guest = random.index_or_last(shares.len());
+            add_behind_memory(&mut shares[guest], random);
+            return Partition::over(&shares, random);
+        }
+        let mut partition = Partition::over(&shares, random);
         let guest = partition.some_guest(random);
         let place = random.index_or_last(guest.extents.len());
         if let Some(extent) = guest.extents.get_mut(place) {
@@ -67,17 +70,33 @@ impl Partition {
     /// A sound partition whose host pages may lie anywhere.
     pub fn anywhere(random: &mut Random) -> Partition {
         let runs = runs_anywhere(random);
-        Partition::over(runs, random)
+        let shares = shared_out(runs, random);
+        Partition::over(&shares, random)
     }
 
-    fn over(runs: Vec<Run>, random: &mut Random) -> Partition {
-        let most = runs.len().min(4);
-        let count = match random.below(5) {
-            0 | 1 => most,
-            2 => 1,
-            _ => 1 + random.index(most),
-        };
-        let shares = shared_out(runs, count, random);
+    /// A sound partition in which every guest has more extents than the lent
+    /// memory has pages.
+    pub fn crowded(random: &mut Random) -> Partition {
+        let guests = 1 + random.index_or_last(4);
+        let counts: Vec<usize> = (0..guests).map(|_| most_or_fewer(random)).collect();
+        let mut runs = runs_from(
+            random.pick(&[0, 0, 0, 1, 1000]),
+            counts.iter().sum(),
+            random,
+        );
+        if random.one_in(2) {
+            random.shuffle(&mut runs);
+        }
+        let mut rest = runs.into_iter();
+        let shares: Vec<Vec<Run>> = counts
+            .into_iter()
+            .map(|count| rest.by_ref().take(count).collect())
+            .collect();
+        Partition::over(&shares, random)
+    }
+
+    /// A guest for each share of the host pages.
+    fn over(shares: &[Vec<Run>], random: &mut Random) -> Partition {
         let mut names = Vec::new();
         let guests: Vec<Guest> = shares
             .iter()
@@ -136,9 +155,10 @@ impl Partition {
         let guest = self.some_guest(random);
         match random.below(3) {
             0 => guest.cpus = random.pick(&[0, 9, 10, 15]),
-            // With no list behind a count of 0, the count alone is wrong.
+            // With no list behind a count of 0, the count alone is wrong. Every
+            // other count is right by itself, and not that of the list.
             1 if random.one_in(3) => (guest.extent_count, guest.extents) = (0, Vec::new()),
-            1 => guest.extent_count = random.pick(&[0, 5, 5, 6, 7]),
+            1 => guest.extent_count = random.pick(&[0, 0, 1, 4, 5, 6, 7]),
             _ => guest.source_count = random.pick(&[17, 18, 24, 31]),
         }
     }
@@ -270,6 +290,15 @@ pub fn stub(random: &mut Random) -> Vec<u8> {
     image
 }
 
+fn shares_in_memory(random: &mut Random) -> Vec<Vec<Run>> {
+    let runs = match random.below(8) {
+        0..=2 => (0..MEMORY_PAGES).map(|page| (page, 1)).collect(),
+        3 => vec![(0, MEMORY_PAGES)],
+        _ => runs_in_memory(random),
+    };
+    shared_out(runs, random)
+}
+
 fn runs_in_memory(random: &mut Random) -> Vec<Run> {
     let mut runs = Vec::new();
     let mut page = 0;
@@ -285,6 +314,29 @@ fn runs_in_memory(random: &mut Random) -> Vec<Run> {
             runs.push((page, pages));
         }
         page += pages;
+    }
+    runs
+}
+
+/// More runs for one guest, behind the lent memory, up to the most that it has.
+fn add_behind_memory(share: &mut Vec<Run>, random: &mut Random) {
+    let room = EXTENT_LIMIT as usize - share.len();
+    let count = 1 + random.index_or_last(room);
+    share.extend(runs_from(MEMORY_PAGES, count, random));
+}
+
+/// How many extents a crowded guest has: the most, or one or two fewer.
+fn most_or_fewer(random: &mut Random) -> usize {
+    EXTENT_LIMIT as usize - random.index(3)
+}
+
+/// So many runs from a page on, often touching.
+fn runs_from(mut page: u64, count: usize, random: &mut Random) -> Vec<Run> {
+    let mut runs = Vec::new();
+    for _ in 0..count {
+        let pages = random.pick(&[1, 1, 1, 2, 3]);
+        runs.push((page, pages));
+        page += pages + random.pick(&[0, 0, 0, 1]);
     }
     runs
 }
@@ -306,9 +358,15 @@ fn runs_anywhere(random: &mut Random) -> Vec<Run> {
     runs
 }
 
-/// Runs that follow each other may fall to one guest, so that its extents
-/// touch in real and in host pages.
-fn shared_out(mut runs: Vec<Run>, count: usize, random: &mut Random) -> Vec<Vec<Run>> {
+/// Some guests, and which runs fall to each. Those that follow each other may
+/// fall to one, so that its extents touch in real and in host pages.
+fn shared_out(mut runs: Vec<Run>, random: &mut Random) -> Vec<Vec<Run>> {
+    let most = runs.len().min(4);
+    let count = match random.below(5) {
+        0 | 1 => most,
+        2 => 1,
+        _ => 1 + random.index(most),
+    };
     let in_order = !random.one_in(3);
     if !in_order {
         random.shuffle(&mut runs);

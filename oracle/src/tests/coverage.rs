@@ -2,7 +2,10 @@
 //! status that the paper lists, and the first and last of every number.
 
 use crate::coverage::{generated, tally_of, Tally};
+use crate::image;
 use crate::reach::{reach_of, Reach};
+use crate::session::{parse, Line};
+use std::collections::BTreeSet;
 use std::ops::Range;
 
 /// The statuses of each kind of line, without those of the entry.
@@ -63,25 +66,29 @@ const ENTRY: [(&str, &str); 5] = [
 /// break a rule. A scrub of more than 32,768 bytes has no status of its own.
 const NOT_SHOWN: [&str; 1] = ["65"];
 
+/// The pages of a session's memory. Each extent of an accepted line has one of
+/// them, so none behind the fourth extent is named, though a guest may have it.
+const LENT_PAGES: usize = 4;
+
 /// The numbers of guests, cpus and the like that the accepted lines of a
 /// generated session name, besides guest and cpu of every call and head write.
 const NUMBERS: [(&str, &str, Range<usize>); 21] = [
     ("call 80/14", "queue", 0..4),
     ("call 80/15", "queue", 0..4),
-    ("call 80/14", "extent", 0..4),
-    ("call 80/20", "extent", 0..4),
-    ("call 80/21", "extent", 0..4),
-    ("call 80/31", "extent", 0..4),
-    ("call 80/32", "extent", 0..4),
-    ("call 80/42", "extent", 0..4),
+    ("call 80/14", "extent", 0..LENT_PAGES),
+    ("call 80/20", "extent", 0..LENT_PAGES),
+    ("call 80/21", "extent", 0..LENT_PAGES),
+    ("call 80/31", "extent", 0..LENT_PAGES),
+    ("call 80/32", "extent", 0..LENT_PAGES),
+    ("call 80/42", "extent", 0..LENT_PAGES),
     ("call 80/42", "target", 0..8),
-    ("call 80/102", "extent", 0..4),
+    ("call 80/102", "extent", 0..LENT_PAGES),
     ("call 80/a6", "target", 0..8),
     ("call 80/ae", "target", 0..8),
     ("load", "guest", 0..4),
-    ("load", "extent", 0..4),
+    ("load", "extent", 0..LENT_PAGES),
     ("store", "guest", 0..4),
-    ("store", "extent", 0..4),
+    ("store", "extent", 0..LENT_PAGES),
     ("raise to 1", "guest", 0..4),
     ("raise to 1", "source", 0..16),
     ("raise to 2", "guest", 0..4),
@@ -93,8 +100,8 @@ const NUMBERS: [(&str, &str, Range<usize>); 21] = [
 const WRITTEN: [(&str, &str, Range<usize>); 15] = [
     ("call 80/14", "cpu", 0..8),
     ("call 80/14", "queue", 0..4),
-    ("call 80/14", "extent", 0..4),
-    ("call 80/32", "extent", 0..4),
+    ("call 80/14", "extent", 0..LENT_PAGES),
+    ("call 80/32", "extent", 0..LENT_PAGES),
     ("call 80/42", "target", 1..8),
     ("call 80/102", "cpu", 0..8),
     ("call 80/103", "cpu", 0..8),
@@ -102,8 +109,8 @@ const WRITTEN: [(&str, &str, Range<usize>); 15] = [
     ("call 80/a6", "source", 0..16),
     ("call 80/a6", "target", 0..8),
     ("load", "guest", 0..4),
-    ("load", "extent", 0..4),
-    ("store", "extent", 0..4),
+    ("load", "extent", 0..LENT_PAGES),
+    ("store", "extent", 0..LENT_PAGES),
     ("raise to 2", "guest", 3..4),
     ("raise to 2", "source", 13..16),
 ];
@@ -143,6 +150,26 @@ fn a_generated_session_reaches_every_number() {
     }
     for (kind, what, numbers) in NUMBERS {
         check_numbers(&reach, kind, what, numbers);
+    }
+}
+
+#[test]
+fn a_generated_session_loads_every_number_of_extents() {
+    let session = generated(1, 200_000).expect("memory");
+    let mut loaded = BTreeSet::new();
+    for line in session.split(|&byte| byte == b'\n') {
+        let Some(Line::Image(image)) = parse(line) else {
+            continue;
+        };
+        let tables = image::load(&image).unwrap_or_default();
+        let counts = tables.guests.iter().map(|guest| guest.extents.len());
+        loaded.extend(counts.enumerate());
+    }
+    for guest in 0..4 {
+        for count in 1..=7 {
+            let found = loaded.contains(&(guest, count));
+            assert!(found, "guest {guest} never has {count} extents");
+        }
     }
 }
 
