@@ -7,6 +7,7 @@ pub mod DeterminedInside
 pub mod DeterminedText
 pub mod Elsewhere
 pub mod Examples
+pub mod Extents
 pub mod Isolation
 pub mod Kept
 pub mod NotVacuous
