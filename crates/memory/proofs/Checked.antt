@@ -83,7 +83,7 @@ module _ (tables : Tables) where
   abbrev held : ℕ → ℕ → Extent
   held g i = extentAt (guestAt tables g .extents) i
 
-  run-at : (g i : ℕ) → i < extentLimit → runAt tables (extentLimit * g + i) ≡ held g i
+  pub run-at : (g i : ℕ) → i < extentLimit → runAt tables (extentLimit * g + i) ≡ held g i
   unfolding runAt
   run-at g i h =
       let d : (extentLimit * g + i) / extentLimit ≡ g = omega arith in

@@ -132,11 +132,18 @@ pub fn runs(t: Tables) -> [Extent; RUNS]
     let guest = t.guest;
     let mut runs = [blank::extent(); RUNS];
     let mut k = 0;
-    while k < RUNS {
-        let at = guest[k / EXTENTS];
+    let mut g = 0;
+    // A guest's record is large and is copied once, not for each of its extents.
+    while g < GUESTS {
+        let at = guest[g];
         let list = at.extents.extent;
-        runs[k] = list[k % EXTENTS];
-        k += 1;
+        let mut i = 0;
+        while i < EXTENTS {
+            runs[k] = list[i];
+            k += 1;
+            i += 1;
+        }
+        g += 1;
     }
     runs
 }
