@@ -10,7 +10,7 @@ use Rattle.rules.specs.declared.Refusal.the-variants.{ImageBad}
 use Rattle.rules.specs.Limits.{extentLimit}
 use Rattle.rules.specs.Widths.{extentsWidth}
 use Rattle.rules.specs.Bits.{fieldAt, reaches}
-use Rattle.rules.specs.Rulings.{Ruling, granted, _or-refuse_then_}
+use Rattle.rules.specs.Rulings.{granted, _or-refuse_then_}
 use Rattle.rules.specs.Image.{_bits-at_of_from_to_}
 use Rattle.bits.proofs.FieldLaws.{field-lt}
 

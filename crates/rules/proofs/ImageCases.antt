@@ -11,7 +11,7 @@ use Rattle.rules.proofs.Computing.{computing}
 use Rattle.rules.specs.Text.{bytesOf}
 use Rattle.rules.proofs.Worked.{run, inPlaces}
 use Rattle.rules.proofs.Changes.{comparing, guests, majors, word}
-use Rattle.rules.proofs.Sessions.{Exchange, _prints_, _prints_setting_, empty, given, after, heard, Cases}
+use Rattle.rules.proofs.Sessions.{Exchange, _prints_, _prints_setting_, empty, given, after, heard, Cases, six, sevenWith}
 
 -- what each line of a list prints, on a session with no guest; and the same text for each
 unfoldable pub texts : List String → List (List ℕ)
@@ -21,13 +21,6 @@ texts (line ∷ lines) = given (empty 0) line .text ∷ texts lines
 unfoldable pub each-prints : String → List String → List (List ℕ)
 each-prints text [] = []
 each-prints text (line ∷ lines) = bytesOf text ∷ each-prints text lines
-
--- six extents of a page each, apart in real pages, on host pages that descend; a guest with these and a seventh
-abbrev pub six : String
-six = " 0000000 0001 0006 0000002 0001 0005 0000004 0001 0004 0000006 0001 0003 0000008 0001 0002 000000a 0001 0001"
-
-abbrev pub sevenWith : String → String
-sevenWith last = "image 11 1e0" ++ six ++ " " ++ last
 
 -- four guests of seven extents of a page each, which touch, on host pages in a row; but for the last of all, which is told
 abbrev pub twentyEight : String → String
@@ -46,13 +39,13 @@ short =
     ∷ "image 11"
     -- behind the cpus and the extents; behind the extents; in the extent; in the source
     ∷ "image 11 12"
-    -- five extents and seven are counts like another; the last bits of the seventh
-    ∷ "image 11 1a"
-    ∷ "image 11 1e"
-    ∷ sevenWith "000000c 0001 00"
     ∷ "image 11 120 0"
     ∷ "image 11 120 0000000 0001 00"
     ∷ "image 11 121 0000000 0001 0000 0000100 0"
+    -- five extents and seven are counts like another; in the seventh
+    ∷ "image 11 1a"
+    ∷ "image 11 1e"
+    ∷ sevenWith "000000c 0001 00"
     -- the second guest's counts, and its extent
     ∷ "image 12 120 0000000 0001 0000"
     ∷ "image 12 120 0000000 0001 0000 120 0000000 0001 00"

@@ -6,7 +6,7 @@ use Rattle.rules.specs.Session.{Session}
 use Rattle.rules.proofs.Computing.{computing}
 use Rattle.rules.specs.Text.{bytesOf}
 use Rattle.rules.proofs.Changes.{Row, rows, differing, comparing, statistics, word}
-use Rattle.rules.proofs.Sessions.{Exchange, _prints_, _prints_setting_, empty, given, after, heard, Cases}
+use Rattle.rules.proofs.Sessions.{Exchange, _prints_, _prints_setting_, empty, given, after, heard, Cases, sevenWith}
 
 -- a guest of two cpus with two extents that touch: real pages 1 and 2 are host pages 0 and 1, and real page 3 is host page 2
 abbrev pub twoExtents : List String
@@ -64,11 +64,9 @@ seamWords =
     ∷ "load 0 6000" prints "0 1122334455667788 0 0 0"
     ∷ []
 
--- seven extents of a page each, apart in real pages, on host pages that descend: the seventh is host page 0
+-- seven extents, of which the seventh is host page 0
 abbrev pub sevenExtents : List String
-sevenExtents =
-    "image 11 1e0 0000000 0001 0006 0000002 0001 0005 0000004 0001 0004 0000006 0001 0003 0000008 0001 0002 000000a 0001 0001 000000c 0001 0000"
-    ∷ []
+sevenExtents = sevenWith "000000c 0001 0000" ∷ []
 
 abbrev pub lateWords : List Exchange
 lateWords =

@@ -3,7 +3,7 @@
 use mathlib.Core.Path.{_≡_}
 use mathlib.Core.List.{List, [], _∷_}
 use Prim.Native.Nat.{ℕ}
-use Prim.Native.String.{String}
+use Prim.Native.String.{String, _++_}
 use lib.ListN.{replicate}
 use Rattle.rules.specs.Kept.{noGuests}
 use Rattle.rules.specs.Text.{parse}
@@ -48,3 +48,10 @@ heard s (x ∷ xs) =
 -- the claim: with n bytes of memory, and after the lines `before`, each line prints and changes what stands beside it, no more
 abbrev pub Cases : ℕ → List String → List Exchange → Type 0
 Cases n before xs = heard (after (empty n) before) xs ≡ xs
+
+-- Six extents of a page each, apart in real pages, on host pages that descend; an image of one guest with these and a seventh.
+abbrev pub six : String
+six = " 0000000 0001 0006 0000002 0001 0005 0000004 0001 0004 0000006 0001 0003 0000008 0001 0002 000000a 0001 0001"
+
+abbrev pub sevenWith : String → String
+sevenWith last = "image 11 1e0" ++ six ++ " " ++ last
