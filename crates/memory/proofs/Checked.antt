@@ -72,7 +72,7 @@ ascend-at e i p h =
     let s : suc i - 1 ≡ i = omega arith in
     leb-true _ _ (rw (ne-eqb (suc i) 0 (omega arith), s) at q)
 
-apart-present : (e : Extents) → ascend e ≡ true → Apart (present e)
+pub apart-present : (e : Extents) → ascend e ≡ true → Apart (present e)
 apart-present e p =
     apart-of (present e) (λ i l.
     rw (at-there e i (omega arith), at-there e (suc i) l) (omega (arith, ascend-at e i p (there e (suc i) l))))

@@ -2,7 +2,7 @@
 use mathlib.Core.Path.{_≡_, refl, sym, ap, _∙_, fun-ext}
 use mathlib.Core.Bool.{Bool, true, false, _||_, true≢false, false≢true}
 use mathlib.Core.List.{List, [], _∷_}
-use Prim.Native.Nat.{ℕ, suc, _+_, _*_, _≤_, min, max}
+use Prim.Native.Nat.{ℕ, suc, _+_, _*_, _≤_, _<_, min, max}
 use native.Mathlib.Omega.{arith}
 use lib.Dec.{leb}
 use lib.Seq.{getD-set-other}
@@ -36,35 +36,35 @@ within-high : (x : Extent) (k : ℕ) → within x k ≡ true → k + 1 ≤ (x .h
 within-high x k h = leb-true _ _ (and-right (leb (x .host * pageSize) k) _ h)
 
 -- where an address of the extent lies is in its host pages
-pub held-within : (x : Extent) (b : ℕ) (h : Host) → holds x b 1 ≡ true → hostOffset x (record { 0 = b }) ≡ h → within x (h .0) ≡ true
+pub held-within : (x : Extent) (b : ℕ) (h : Host) → holds x b ≡ true → hostOffset x (record { 0 = b }) ≡ h → within x (h .0) ≡ true
 held-within x b h p q =
-    let lo : low x ≤ b = holds-low x b 1 p in
-    let hi : b + 1 ≤ high x = holds-high x b 1 p in
+    let lo : low x ≤ b = holds-low x b p in
+    let hi : b < high x = holds-high x b p in
     let g : hostOffset x (record { 0 = b }) .0 ≡ h .0 = ap (λ (r : Host). r .0) q in
     within-made x (h .0) (omega arith) (omega arith)
 
-pub located-owns : (es : List Extent) (b : ℕ) (h : Host) → located es b 1 ≡ Place.At h → owns es (h .0) ≡ true
+pub located-owns : (es : List Extent) (b : ℕ) (h : Host) → located es b ≡ Place.At h → owns es (h .0) ≡ true
 unfolding owns
-located-owns [] b h e = absurd (nowhere b 1 h e)
-located-owns (x ∷ xs) b h e = go (located-owns xs b h) (lies x xs b 1 h e)
+located-owns [] b h e = absurd (nowhere b h e)
+located-owns (x ∷ xs) b h e = go (located-owns xs b h) (lies x xs b h e)
   where
-    go : (located xs b 1 ≡ Place.At h → owns xs (h .0) ≡ true) → Lies x xs b 1 h → (within x (h .0) || owns xs (h .0)) ≡ true
+    go : (located xs b ≡ Place.At h → owns xs (h .0) ≡ true) → Lies x xs b h → (within x (h .0) || owns xs (h .0)) ≡ true
     go ih (here p q) = rw (held-within x b h p q)
     go ih (later p q) = or-true (within x (h .0)) _ (ih q)
 
 -- an offset that is none of the guest's keeps its byte
 module _ (es : List Extent) (k : ℕ) (no : owns es k ≡ false) where
-  there-other : (m : List ℕ) (a v : ℕ) → cell (putThere m (located es a 1) v) k ≡ cell m k
-  there-other m a v = go (located es a 1) refl
+  there-other : (m : List ℕ) (a v : ℕ) → cell (putThere m (located es a) v) k ≡ cell m k
+  there-other m a v = go (located es a) refl
     where
-      go : (p : Place) → located es a 1 ≡ p → cell (putThere m p v) k ≡ cell m k
+      go : (p : Place) → located es a ≡ p → cell (putThere m p v) k ≡ cell m k
       go Place.Nowhere e = refl
       go (Place.At h) e = getD-set-other m (h .0) k v 0 (λ q. true≢false (sym (located-owns es a h e) ∙ ap (owns es) (sym q) ∙ no))
 
   put-other : (vs m : List ℕ) (a : ℕ) → cell (putBytes es m a vs) k ≡ cell m k
   unfolding putBytes
   put-other [] m a = refl
-  put-other (v ∷ vs) m a = put-other vs (putThere m (located es a 1) v) (suc a) ∙ there-other m a v
+  put-other (v ∷ vs) m a = put-other vs (putThere m (located es a) v) (suc a) ∙ there-other m a v
 
   pub apply-other : (ws : List Write) (m : List ℕ) → cell (apply es m ws) k ≡ cell m k
   unfolding apply
@@ -75,9 +75,9 @@ module _ (es : List Extent) (k : ℕ) (no : owns es k ≡ false) where
 module _ (es fs : List Extent) (s : Strangers es fs) (ws : List Write) (m : List ℕ) where
   pub unseen : (b : ℕ) → byteAt fs (apply es m ws) b ≡ byteAt fs m b
   unfolding byteAt
-  unseen b = go (located fs b 1) refl
+  unseen b = go (located fs b) refl
     where
-      go : (p : Place) → located fs b 1 ≡ p → byteThere (apply es m ws) p ≡ byteThere m p
+      go : (p : Place) → located fs b ≡ p → byteThere (apply es m ws) p ≡ byteThere m p
       go Place.Nowhere e = refl
       go (Place.At h) e = apply-other es (h .0) (s (h .0) (located-owns fs b h e)) ws m
 

@@ -3,6 +3,8 @@ pub mod Holds
 pub mod Isolation
 pub mod Numbers
 pub mod Places
+pub mod Reached
 pub mod Sights
 pub mod Stores
+pub mod Walks
 pub mod Writes

@@ -15,9 +15,10 @@ use Rattle.rules.specs.declared.Place.{Place}
 use Rattle.rules.specs.Real.{hostOffset, valid, located, byteThere, byteAt, Sight, sightOf, putThere, putBytes, Write, apply, numberOf, wordBytes}
 use Rattle.memory.specs.Cells.{cell}
 use Rattle.memory.specs.Ready.{Long}
-use Rattle.memory.proofs.Holds.{holds-low, at-valid, nowhere-valid}
+use Rattle.memory.proofs.Holds.{holds-low}
 use Rattle.memory.proofs.Numbers.{number-same}
 use Rattle.memory.proofs.Places.{Lies, here, later, lies, nowhere, room}
+use Rattle.memory.proofs.Reached.{at-valid, nowhere-valid}
 use Rattle.memory.proofs.Writes.{there-length, put-length}
 use Rattle.memory.proofs.Isolation.{Distinct, located-owns, held-within, unshared-owns}
 
@@ -35,21 +36,21 @@ after s [] = s
 after s (w ∷ ws) = after (over s (w .at) (w .bytes)) ws
 
 -- two addresses that lie at one offset are one
-one-place : (es : List Extent) (a b : ℕ) (h : Host) → Distinct es → located es a 1 ≡ Place.At h → located es b 1 ≡ Place.At h → a ≡ b
-one-place [] a b h d p q = absurd (nowhere a 1 h p)
-one-place (x ∷ xs) a b h d p q = go (λ u w. one-place xs a b h (d .1) u w) (lies x xs a 1 h p) (lies x xs b 1 h q)
+one-place : (es : List Extent) (a b : ℕ) (h : Host) → Distinct es → located es a ≡ Place.At h → located es b ≡ Place.At h → a ≡ b
+one-place [] a b h d p q = absurd (nowhere a h p)
+one-place (x ∷ xs) a b h d p q = go (λ u w. one-place xs a b h (d .1) u w) (lies x xs a h p) (lies x xs b h q)
   where
-    go : (located xs a 1 ≡ Place.At h → located xs b 1 ≡ Place.At h → a ≡ b) → Lies x xs a 1 h → Lies x xs b 1 h → a ≡ b
+    go : (located xs a ≡ Place.At h → located xs b ≡ Place.At h → a ≡ b) → Lies x xs a h → Lies x xs b h → a ≡ b
     go ih (here u w) (here r s) =
         let e : hostOffset x (record { 0 = a }) .0 ≡ hostOffset x (record { 0 = b }) .0 = ap (λ (g : Host). g .0) (w ∙ sym s) in
-        omega (arith, holds-low x a 1 u, holds-low x b 1 r)
+        omega (arith, holds-low x a u, holds-low x b r)
     go ih (here u w) (later r s) = absurd (unshared-owns x xs (h .0) (d .0) (held-within x a h u w) (located-owns xs b h s))
     go ih (later u w) (here r s) = absurd (unshared-owns x xs (h .0) (d .0) (held-within x b h r s) (located-owns xs a h w))
     go ih (later u w) (later r s) = ih w s
 
 module _ (es : List Extent) (d : Distinct es) where
   -- the byte at b after a byte was put at an address a that lies at h; t is whether b is a, and q where b lies
-  own-put : (m : List ℕ) (a v b : ℕ) (h : Host) → located es a 1 ≡ Place.At h → h .0 < length m → (t : Bool) → eqb b a ≡ t → (q : Place) → located es b 1 ≡ q
+  own-put : (m : List ℕ) (a v b : ℕ) (h : Host) → located es a ≡ Place.At h → h .0 < length m → (t : Bool) → eqb b a ≡ t → (q : Place) → located es b ≡ q
       → byteThere (set m (h .0) v) q ≡ cond t v (byteThere m q)
   own-put m a v b h p l true e Place.Nowhere q =
       let i : b ≡ a = eqb-true b a e in
@@ -63,24 +64,24 @@ module _ (es : List Extent) (d : Distinct es) where
   own-put m a v b h p l false e (Place.At g) q =
       getD-set-other m (h .0) (g .0) v 0 (λ z. eqb-false b a e (one-place es b a h d (q ∙ (λ i. Place.At (record { 0 = z i }))) p))
 
-  own-byte : (m : List ℕ) → Long es (length m) → (a v b : ℕ) → byteAt es (putThere m (located es a 1) v) b ≡ cond (eqb b a && valid es a 1) v (byteAt es m b)
+  own-byte : (m : List ℕ) → Long es (length m) → (a v b : ℕ) → byteAt es (putThere m (located es a) v) b ≡ cond (eqb b a && valid es a 1) v (byteAt es m b)
   unfolding byteAt
-  own-byte m l a v b = go (located es a 1) refl
+  own-byte m l a v b = go (located es a) refl
     where
-      go : (p : Place) → located es a 1 ≡ p → byteThere (putThere m p v) (located es b 1) ≡ cond (eqb b a && valid es a 1) v (byteThere m (located es b 1))
-      go Place.Nowhere e = rw (← nowhere-valid es a 1 Place.Nowhere (sym e) refl, and-false)
+      go : (p : Place) → located es a ≡ p → byteThere (putThere m p v) (located es b) ≡ cond (eqb b a && valid es a 1) v (byteThere m (located es b))
+      go Place.Nowhere e = rw (← nowhere-valid es a e, and-false)
       go (Place.At h) e =
-          rw (← at-valid es a 1 (Place.At h) h (sym e) refl, and-true)
-          (own-put m a v b h e (omega (arith, room es a 1 h (length m) l e)) (eqb b a) refl (located es b 1) refl)
+          rw (← at-valid es a h e, and-true)
+          (own-put m a v b h e (omega (arith, room es a h (length m) l e)) (eqb b a) refl (located es b) refl)
 
-  own-upd : (m : List ℕ) → Long es (length m) → (a v : ℕ) → sightOf es (putThere m (located es a 1) v) ≡ upd (sightOf es m) a v
+  own-upd : (m : List ℕ) → Long es (length m) → (a v : ℕ) → sightOf es (putThere m (located es a) v) ≡ upd (sightOf es m) a v
   own-upd m l a v = ap (λ (see : ℕ → ℕ). record { valid = valid es; byte = see }) (fun-ext (λ b. own-byte m l a v b))
 
   own-over : (vs m : List ℕ) → Long es (length m) → (a : ℕ) → sightOf es (putBytes es m a vs) ≡ over (sightOf es m) a vs
   unfolding putBytes over
   own-over [] m l a = refl
   own-over (v ∷ vs) m l a =
-      own-over vs (putThere m (located es a 1) v) (rw there-length l) (suc a) ∙ ap (λ (s : Sight). over s (suc a) vs) (own-upd m l a v)
+      own-over vs (putThere m (located es a) v) (rw there-length l) (suc a) ∙ ap (λ (s : Sight). over s (suc a) vs) (own-upd m l a v)
 
   -- the sight after the plant's own writes
   pub own-sight : (ws : List Write) (m : List ℕ) → Long es (length m) → sightOf es (apply es m ws) ≡ after (sightOf es m) ws

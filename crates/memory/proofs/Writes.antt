@@ -21,7 +21,7 @@ module _ (es : List Extent) where
   put-append [] vs m a = rw add-zero
   put-append (u ∷ us) vs m a =
       let e : a + suc (length us) ≡ suc a + length us = omega arith in
-      rw e (put-append us vs (putThere m (located es a 1) u) (suc a))
+      rw e (put-append us vs (putThere m (located es a) u) (suc a))
 
   -- the memory's length
   pub there-length : (m : List ℕ) (p : Place) (v : ℕ) → length (putThere m p v) ≡ length m
@@ -31,7 +31,7 @@ module _ (es : List Extent) where
   pub put-length : (vs m : List ℕ) (a : ℕ) → length (putBytes es m a vs) ≡ length m
   unfolding putBytes
   put-length [] m a = refl
-  put-length (v ∷ vs) m a = put-length vs (putThere m (located es a 1) v) (suc a) ∙ there-length m (located es a 1) v
+  put-length (v ∷ vs) m a = put-length vs (putThere m (located es a) v) (suc a) ∙ there-length m (located es a) v
 
   pub apply-length : (ws : List Write) (m : List ℕ) → length (apply es m ws) ≡ length m
   unfolding apply

@@ -3,7 +3,7 @@ ghost use mathlib.Core.Path.{_≡_};
 ghost use Prim.Native.Nat.{_+_, _<_, _≤_, _^_};
 ghost use lib.ListN.{length, replicate};
 ghost use lib.Seq.{sets};
-ghost use Rattle.rules.specs.Real.{numberOf, wordBytes, bytesFrom};
+ghost use Rattle.rules.specs.Real.{numberOf, wordBytes};
 ghost use Rattle.memory.specs.Cells.{cell};
 
 // Copies src into mem from the offset at.
@@ -50,20 +50,6 @@ pub(crate) fn number(mem: &[u8], at: usize, k: usize) -> u64
         i += 1;
     }
     v
-}
-
-// The 64 bytes from the offset at.
-pub(crate) fn copy64(mem: &[u8], at: usize) -> [u8; 64]
-    requires { ⌜ at + 64 ≤ length (now mem) ⌝ }
-    ensures { λ r. ⌜ r ≡ bytesFrom (cell (now (mem .entry))) at 64 ⌝ }
-{
-    let mut out = [0u8; 64];
-    let mut i = 0;
-    while i < 64 {
-        out[i] = mem[at + i];
-        i += 1;
-    }
-    out
 }
 
 // The bytes of a word, most significant first.

@@ -1,8 +1,8 @@
 -- A valid range ends below 2^64, since the numbers of an extent are those of its types.
 use mathlib.Core.Path.{_≡_, refl}
-use mathlib.Core.Bool.{Bool, true, false, _||_, false≢true}
+use mathlib.Core.Bool.{Bool, true, false, cond, false≢true}
 use mathlib.Core.List.{List, [], _∷_, map}
-use Prim.Native.Nat.{ℕ, zero, suc, _+_, _^_, _<_}
+use Prim.Native.Nat.{ℕ, zero, suc, _+_, _-_, _^_, _<_}
 use native.Mathlib.Omega.{arith}
 use lib.ListN.{take}
 use mir.Val.{Val}
@@ -14,11 +14,14 @@ use denote.Struct.Declared.{row, shape}
 use denote.Struct.Struct.{Struct}
 use Rattle.rules.specs.declared.Extent.{Extent}
 use Rattle.rules.specs.declared.Extents.{Extents}
-use Rattle.rules.specs.Real.{holds, valid}
+use Rattle.rules.specs.declared.Place.{Place}
+use Rattle.rules.specs.Real.{holds, hostOffset, valid, located}
 use Rattle.rules.proofs.Extent as one
 use Rattle.rules.proofs.Extents as several
+use Rattle.memory.specs.Cells.{somewhere}
 use Rattle.memory.specs.Ready.{present}
 use Rattle.memory.proofs.Holds.{holds-high}
+use Rattle.memory.proofs.Places.{valid-at}
 
 -- the numbers of each extent are those of its types
 abbrev Typed : List Extent → Type 0
@@ -42,14 +45,16 @@ typed-each (x ∷ xs) (u ∷ us) s = ((omega arith, omega arith), typed-each xs 
 typed-extents : (e : Extents) (vs : List Val) → Is (row several.the-type) e vs → Typed (present e)
 typed-extents e vs g = typed-take (e .extents) (e .extent) (typed-each (e .extent) (g .1 .1 .1 .0 .0) (g .1 .1 .1 .0 .1 .1))
 
-ends : (es : List Extent) (b n : ℕ) → Typed es → valid es b n ≡ true → b + n < 2 ^ 64
-unfolding valid
-ends [] b n h v = absurd (false≢true v)
-ends (x ∷ xs) b n h v = go (λ w. ends xs b n (h .1) w) (holds x b n) refl v
+-- an address that lies in an extent
+reaches : (es : List Extent) (a : ℕ) → Typed es → somewhere (located es a) ≡ true → a + 1 < 2 ^ 64
+unfolding located
+reaches [] a h v = absurd (false≢true v)
+reaches (x ∷ xs) a h v = go (λ w. reaches xs a (h .1) w) (holds x a) refl v
   where
-    go : (valid xs b n ≡ true → b + n < 2 ^ 64) → (t : Bool) → holds x b n ≡ t → (t || valid xs b n) ≡ true → b + n < 2 ^ 64
-    go ih true p q = omega (arith, h .0 .0, h .0 .1, holds-high x b n p)
+    go : (somewhere (located xs a) ≡ true → a + 1 < 2 ^ 64) → (t : Bool) → holds x a ≡ t → somewhere (cond t (Place.At (hostOffset x (record { 0 = a }))) (located xs a)) ≡ true → a + 1 < 2 ^ 64
+    go ih true p q = omega (arith, h .0 .0, h .0 .1, holds-high x a p)
     go ih false p q = ih q
 
-pub range-ends : (e : Extents) (vs : List Val) (b n : ℕ) → Is (row several.the-type) e vs → valid (present e) b n ≡ true → b + n < 2 ^ 64
-range-ends e vs b n g v = ends (present e) b n (typed-extents e vs g) v
+pub range-ends : (e : Extents) (vs : List Val) (b n : ℕ) → Is (row several.the-type) e vs → valid (present e) b n ≡ true → 0 < n → b + n < 2 ^ 64
+range-ends e vs b n g v h =
+    omega (arith, reaches (present e) (b + (n - 1)) (typed-extents e vs g) (valid-at (present e) b n (n - 1) v (omega arith)))

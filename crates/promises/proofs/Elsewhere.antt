@@ -53,9 +53,9 @@ abbrev pub zeros : List ℕ
 zeros = replicate 32768 0
 
 -- every byte that a guest sees of them is 0
-zero-seen : (es : List Extent) (a : ℕ) → byteAt es zeros a ≡ 0
+pub zero-seen : (es : List Extent) (a : ℕ) → byteAt es zeros a ≡ 0
 unfolding byteAt
-zero-seen es a = there (located es a 1)
+zero-seen es a = there (located es a)
   where
     there : (p : Place) → byteThere zeros p ≡ 0
     there Place.Nowhere = refl

@@ -8,6 +8,7 @@ use Rattle.rules.proofs.AcceptedCalls.{AcceptedCalls, accepted-calls}
 use Rattle.rules.proofs.DoorCases.{DoorCases, door-cases}
 use Rattle.rules.proofs.CallCases.{CallCases, call-cases}
 use Rattle.rules.proofs.QueueCases.{QueueCases, queue-cases}
+use Rattle.rules.proofs.SeamCases.{SeamCases, seam-cases}
 use Rattle.rules.proofs.MondoCases.{MondoCases, mondo-cases}
 use Rattle.rules.proofs.TsbCases.{TsbCases, tsb-cases}
 use Rattle.rules.proofs.MemoryCases.{MemoryCases, memory-cases}
@@ -33,5 +34,5 @@ pub the-door-cases : DoorCases
 the-door-cases = door-cases
 
 -- every refusal and every effect of a call, an event, an image and a line, section by section
-pub the-cases : CallCases × QueueCases × MondoCases × TsbCases × MemoryCases × SourceCases × ImageCases × TextCases × KeptCases
-the-cases = (call-cases, queue-cases, mondo-cases, tsb-cases, memory-cases, source-cases, image-cases, text-cases, kept-cases)
+pub the-cases : CallCases × QueueCases × MondoCases × TsbCases × MemoryCases × SeamCases × SourceCases × ImageCases × TextCases × KeptCases
+the-cases = (call-cases, queue-cases, mondo-cases, tsb-cases, memory-cases, seam-cases, source-cases, image-cases, text-cases, kept-cases)

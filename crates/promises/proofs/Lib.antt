@@ -15,6 +15,8 @@ pub mod Passing
 pub mod Pieces
 pub mod Refusals
 pub mod ScrubbedBytes
+pub mod SeamElsewhere
+pub mod Seams
 pub mod StoredWord
 pub mod TwoHosts
 pub mod WrittenBytes

@@ -5,19 +5,24 @@ use Prim.Native.Nat.{ℕ}
 use Rattle.rules.specs.declared.Extent.{Extent}
 use Rattle.rules.specs.declared.Guest.{Guest}
 use Rattle.rules.specs.Kept.{guestAt, extentsOf}
-use Rattle.rules.specs.Real.{valid}
+use Rattle.rules.specs.Real.{reach, valid}
 use Rattle.kept.proofs.Accepted.{Fresh, accepted-fresh, accepted-keeps}
 use Rattle.promises.specs.Words.{Passes, SameReal}
 use Rattle.promises.specs.Promises.{Demand-3}
 use Rattle.promises.proofs.Passing.{extents-kept}
 use Rattle.promises.proofs.Alone.{two-hosts}
 
+-- the same real extents reach as far, wherever they lie on the host
+reach-same : (es fs : List Extent) → SameReal es fs → (a : ℕ) → reach es a ≡ reach fs a
+unfolding reach
+reach-same [] [] s a = refl
+reach-same [] (y ∷ ys) s a = absurd s
+reach-same (x ∷ xs) [] s a = absurd s
+reach-same (x ∷ xs) (y ∷ ys) s a = rw (s .0, s .1) (reach-same xs ys (s .2) _)
+
 valid-same : (es fs : List Extent) → SameReal es fs → (a n : ℕ) → valid es a n ≡ valid fs a n
 unfolding valid
-valid-same [] [] s a n = refl
-valid-same [] (y ∷ ys) s a n = absurd s
-valid-same (x ∷ xs) [] s a n = absurd s
-valid-same (x ∷ xs) (y ∷ ys) s a n = rw (s .0, s .1, valid-same xs ys (s .2) a n)
+valid-same es fs s a n = rw (reach-same es fs s a)
 
 -- guests as images give them, with the same cpus and device list, are the same plant
 plant-same : (x y : Guest) → Fresh x → Fresh y → x .plant .cpus ≡ y .plant .cpus → x .plant .sources ≡ y .plant .sources → x .plant .source ≡ y .plant .source → x .plant ≡ y .plant

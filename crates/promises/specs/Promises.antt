@@ -3,15 +3,17 @@
 use mathlib.Core.Path.{_≡_}
 use mathlib.Core.Bool.{true, false}
 use mathlib.Core.List.{List}
-use Prim.Native.Nat.{ℕ, _<_}
+use Prim.Native.Nat.{ℕ, _+_, _*_, _%_, _<_}
 use lib.ListN.{length, replicate}
 use Rattle.rules.specs.declared.Answer.the-variants.{Refused}
 use Rattle.rules.specs.declared.Call.{Call}
 use Rattle.rules.specs.declared.Event.{Event}
+use Rattle.rules.specs.declared.QueueRecord.{QueueRecord}
 use Rattle.rules.specs.declared.Refusal.{Refusal}
+use Rattle.rules.specs.declared.Ring.{Ring}
 use Rattle.rules.specs.declared.Tables.{Tables}
-use Rattle.rules.specs.Limits.{guestLimit}
-use Rattle.rules.specs.Kept.{plantAt, extentsOf}
+use Rattle.rules.specs.Limits.{guestLimit, queueLimit}
+use Rattle.rules.specs.Kept.{guestAt, plantAt, cpuAt, queueAt, extentsOf}
 use Rattle.rules.specs.Real.{valid, byteAt}
 use Rattle.rules.specs.Rulings.{refused, granted}
 use Rattle.rules.specs.Image.{readImage, load}
@@ -21,7 +23,7 @@ use Rattle.rules.specs.Session.{output}
 use Rattle.memory.specs.Cells.{cell, owns}
 use Rattle.session.specs.Feeding.{atFirst}
 use Rattle.session.specs.Pieces.{inPieces, joinedUp, Roomy}
-use Rattle.promises.specs.Words.{Passes, belongs, tablesAfter, ownEvents, ownAnswers, Unchanged, Untouched, SameReal, StatisticsCall, Clears, cleared, Excepted}
+use Rattle.promises.specs.Words.{Passes, belongs, tablesAfter, ownEvents, ownAnswers, Unchanged, Untouched, InSome, OneRun, SameReal, StatisticsCall, Clears, cleared, Excepted}
 use Rattle.promises.specs.Machine.{machineOf, guestAfter, answersAlone, machineAfter}
 
 -- The tables keep the rules.
@@ -132,6 +134,28 @@ Demand-3 =
     → (g : ℕ) → SamePlant tables tables′ memory memory′ g
     → (events events′ : List Event) → ownEvents (belongs tables g) events ≡ ownEvents (belongs tables′ g) events′
     → SameEnd tables tables′ memory memory′ g events events′
+
+-- Ranges over extents that touch, in tables that keep the rules.
+
+-- `each-byte`: "A range is valid .. if every one of its bytes lies in some extent of the guest", and only then.
+pub record EachByte : Type 0 where
+  pub valid-lies : (tables : Tables) → keepRules tables ≡ true → (g : ℕ) → g < tables .guests
+      → (a n : ℕ) → valid (extentsOf tables g) a n ≡ true
+      → (k : ℕ) → k < n → InSome (guestAt tables g .extents) (a + k)
+  pub lies-valid : (tables : Tables) → keepRules tables ≡ true → (g : ℕ) → g < tables .guests
+      → (a n : ℕ) → ((k : ℕ) → k < n → InSome (guestAt tables g .extents) (a + k))
+      → valid (extentsOf tables g) a n ≡ true
+
+-- `words-never-cross`, `entries-never-cross`: "Queue entries never cross it", nor does a word that stands on a multiple of 8.
+abbrev pub WordsNeverCross : Type 0
+WordsNeverCross = (tables : Tables) (g a : ℕ) → a % 8 ≡ 0 → valid (extentsOf tables g) a 8 ≡ true → OneRun (extentsOf tables g) a 8
+
+abbrev pub EntriesNeverCross : Type 0
+EntriesNeverCross =
+    (tables : Tables) → keepRules tables ≡ true → (g : ℕ) → g < tables .guests
+    → (c q : ℕ) → c < plantAt tables g .cpus → q < queueLimit
+    → (ring : Ring) → queueAt (cpuAt (plantAt tables g) c) q ≡ QueueRecord.Set ring
+    → (i : ℕ) → 64 * i < ring .size → OneRun (extentsOf tables g) (ring .base + 64 * i) 64
 
 -- The session.
 

@@ -3,19 +3,22 @@ use mathlib.Core.Path.{_≡_}
 use mathlib.Core.Bool.{Bool, true, false}
 use mathlib.Core.List.{List, [], _∷_}
 use mathlib.Core.Logic.{_⊎_}
-use Prim.Native.Nat.{ℕ}
+use Prim.Native.Nat.{ℕ, _+_, _<_}
 use lib.Dec.{eqb}
 use lib.ListN.{length}
 use Rattle.rules.specs.declared.Answer.{Answer}
 use Rattle.rules.specs.declared.Call.{Call}
 use Rattle.rules.specs.declared.Event.{Event}
 use Rattle.rules.specs.declared.Extent.{Extent}
+use Rattle.rules.specs.declared.Extents.{Extents}
 use Rattle.rules.specs.declared.Function.{Function}
 use Rattle.rules.specs.declared.Owner.{Owner}
+use Rattle.rules.specs.declared.Place.{Place}
 use Rattle.rules.specs.declared.Refusal.{Refusal}
 use Rattle.rules.specs.declared.Refusal.the-variants.{EBADALIGN, ENORADDR, EWOULDBLOCK}
 use Rattle.rules.specs.declared.Tables.{Tables}
-use Rattle.rules.specs.Kept.{guestAt, plantAt, extentsOf, withPlant, withStatistics}
+use Rattle.rules.specs.Kept.{guestAt, plantAt, extentAt, extentsOf, withPlant, withStatistics}
+use Rattle.rules.specs.Real.{holds, located}
 use Rattle.rules.specs.Rulings.{if_then_else_}
 use Rattle.rules.specs.Calls.{functionOf}
 use Rattle.rules.specs.Tables.{keepRules}
@@ -68,6 +71,17 @@ Unchanged tables memory after = (after .tables ≡ tables) × (after .memory ≡
 pub record Untouched (tables : Tables) (memory : List ℕ) (g : ℕ) (after : HostOutcome) : Type 0 where
   pub kept : guestAt (after .tables) g ≡ guestAt tables g
   pub bytes : (k : ℕ) → owns (extentsOf tables g) k ≡ true → cell (after .memory) k ≡ cell memory k
+
+-- a real address lies in some extent of the guest
+pub record InSome (extents : Extents) (a : ℕ) : Type 0 where
+  pub place : ℕ
+  pub there : place < extents .extents
+  pub has : holds (extentAt extents place) a ≡ true
+
+-- the n bytes from a on lie one behind another on the host
+pub record OneRun (extents : List Extent) (a n : ℕ) : Type 0 where
+  pub host : ℕ
+  pub bytes : (k : ℕ) → k < n → located extents (a + k) ≡ Place.At (record { 0 = host + k })
 
 -- the same real extents, host pages aside
 abbrev pub SameReal : List Extent → List Extent → Type 0

@@ -31,7 +31,7 @@ unfoldable pub meanings : List Meaning
 meanings =
     0 means "0 EOK: done"
     ∷ 1 means "1 ENOCPU: no such cpu in this guest"
-    ∷ 2 means "2 ENORADDR: an address or range that is not in one extent of the guest's own memory"
+    ∷ 2 means "2 ENORADDR: an address, or a byte of a range, that is not in the guest's own memory"
     ∷ 4 means "4 EBADPGSZ: a page index or page mask that no descriptor may have"
     ∷ 5 means "5 EBADTSB: an associativity or number of entries that no descriptor may have"
     ∷ 6 means "6 EINVAL: a bad number, or a source that is not the caller's"

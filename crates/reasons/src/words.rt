@@ -57,7 +57,7 @@ pub fn put_meaning(status: u64, out: &mut [u8; ROOM]) -> usize
         0 => put_text(b"0 EOK: done\n", 0, out),
         1 => put_text(b"1 ENOCPU: no such cpu in this guest\n", 0, out),
         2 => put_text(
-            b"2 ENORADDR: an address or range that is not in one extent of the guest's own memory\n",
+            b"2 ENORADDR: an address, or a byte of a range, that is not in the guest's own memory\n",
             0,
             out,
         ),

@@ -82,9 +82,9 @@ pub target-sound : (cpus : ℕ) (t : Target) → targetRight cpus t ≡ true →
 target-sound cpus Target.Unset e = tt
 target-sound cpus (Target.Cpu c) e = ltb-true _ _ e
 
-pub cpu-sound : (v : ℕ → ℕ → Bool) (cpu : Cpu) (q : ℕ) → cpuRight v cpu ≡ true → q < 4 → RecordSound v (queueAt cpu q)
+cpu-record : (v : ℕ → ℕ → Bool) (cpu : Cpu) (q : ℕ) → cpuRight v cpu ≡ true → q < 4 → recordRight v (queueAt cpu q) ≡ true
 unfolding cpuRight
-cpu-sound v cpu q e h = record-sound v (queueAt cpu q) (all-at (λ j. recordRight v (queueAt cpu j)) 4 q (and-left _ _ e) h)
+cpu-record v cpu q e h = all-at (λ j. recordRight v (queueAt cpu j)) 4 q (and-left _ _ e) h
 
 pub source-target : (plant : Plant) (s : Source) → sourceRight plant s ≡ true → TargetSound (plant .cpus) (s .target)
 unfolding sourceRight
@@ -112,8 +112,11 @@ module _ (v : ℕ → ℕ → Bool) (plant : Plant) (e : plantKeeps v plant ≡ 
   pub plant-sources : plant .sources ≤ sourceLimit
   plant-sources = list-length _ _ _ _ sources-right
 
+  pub plant-records : (c q : ℕ) → c < plant .cpus → q < 4 → recordRight v (queueAt (cpuAt plant c) q) ≡ true
+  plant-records c q h k = cpu-record v (cpuAt plant c) q (list-there _ _ _ _ cpus-right c h) k
+
   pub plant-rings : (c q : ℕ) → c < plant .cpus → q < 4 → RecordSound v (queueAt (cpuAt plant c) q)
-  plant-rings c q h k = cpu-sound v (cpuAt plant c) q (list-there _ _ _ _ cpus-right c h) k
+  plant-rings c q h k = record-sound v (queueAt (cpuAt plant c) q) (plant-records c q h k)
 
   pub plant-targets : (i : ℕ) → i < plant .sources → TargetSound (plant .cpus) (sourceAt plant i .target)
   plant-targets i h = source-target plant (sourceAt plant i) (list-there _ _ _ _ sources-right i h)

@@ -11,6 +11,7 @@ pub mod MemoryCases
 pub mod MondoCases
 pub mod QueueCases
 pub mod Scan
+pub mod SeamCases
 pub mod Sentences
 pub mod Sessions
 pub mod SourceCases

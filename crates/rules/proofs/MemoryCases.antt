@@ -1,4 +1,5 @@
--- "TSB lists and memory", its second half: cases of 0x31, 0x32, store, load, 0x102 and 0x103; and of valid ranges.
+-- "TSB lists and memory", its second half: cases of 0x31, 0x32, store, load, 0x102 and 0x103. Ranges over extents that touch are
+-- in SeamCases.antt.
 use mathlib.Core.Path.{_≡_, refl}
 use mathlib.Core.List.{List, [], _∷_}
 use Prim.Native.String.{String}
@@ -43,25 +44,13 @@ wordsAndPages =
     ∷ "call 0 0 80 32 3000 2000" prints "8 0 0 0 0"
     ∷ "call 0 0 80 32 2000 2040" prints "8 0 0 0 0"
     ∷ "call 0 0 80 32 8040 2000" prints "8 0 0 0 0"
-    -- "whole range not valid ENORADDR": two extents are not one, and a range may not pass 2^64
-    ∷ "call 0 0 80 31 2000 6000" prints "2 0 0 0 0"
-    ∷ "call 0 0 80 32 2000 6000" prints "2 0 0 0 0"
+    -- "whole range not valid ENORADDR": behind the last extent, before the first, and a range may not pass 2^64
+    ∷ "call 0 0 80 31 2000 8000" prints "2 0 0 0 0"
     ∷ "call 0 0 80 32 6000 4000" prints "2 0 0 0 0"
+    ∷ "call 0 0 80 32 0 4000" prints "2 0 0 0 0"
     ∷ "call 0 0 80 31 ffffffffffffe000 8000" prints "2 0 0 0 0"
     -- 0x32 "returns length"
     ∷ "call 0 0 80 32 4000 2000" prints "0 2000 0 0 0"
-    ∷ []
-
--- the same real pages on host pages 1, 2 and 0: at the seam each word lies where its own extent says
-abbrev pub hostApart : List String
-hostApart = "image 11 240 0000001 0002 0001 0000003 0001 0000 0" ∷ []
-
-abbrev pub seamWords : List Exchange
-seamWords =
-    "store 0 5ff8 f" prints "0 0 0 0 0" setting (word 0x5ff8 0xf ∷ [])
-    ∷ "store 0 6000 1122334455667788" prints "0 0 0 0 0" setting (word 0 0x1122_3344_5566_7788 ∷ [])
-    ∷ "load 0 5ff8" prints "0 f 0 0 0"
-    ∷ "load 0 6000" prints "0 1122334455667788 0 0 0"
     ∷ []
 
 -- seven extents, of which the seventh is host page 0
@@ -103,11 +92,10 @@ statisticsCalls =
 
 pub record MemoryCases : Type 0 where
   pub words-pages : Cases 24576 twoExtents wordsAndPages
-  pub seam : Cases 24576 hostApart seamWords
   pub late : Cases 57344 sevenExtents lateWords
   pub scrub-leaves : scrubChanges (after (empty 24576) twoExtents) ≡ []
   pub mmustat : Cases 24576 twoExtents statisticsCalls
 
 pub memory-cases : MemoryCases
 unfolding computing comparing after heard
-memory-cases = record { words-pages = refl; seam = refl; late = refl; scrub-leaves = refl; mmustat = refl }
+memory-cases = record { words-pages = refl; late = refl; scrub-leaves = refl; mmustat = refl }

@@ -1,6 +1,6 @@
 -- Sentences of the paper that no definition says by itself: a range that passes 2^64 is not valid, and a ring of n entries holds n-1.
 use mathlib.Core.Path.{_≡_, refl, sym, _∙_}
-use mathlib.Core.Bool.{Bool, true, false, not, and-false}
+use mathlib.Core.Bool.{Bool, true, false, not, cond}
 use mathlib.Core.List.{List, [], _∷_}
 use mathlib.Core.Logic.{_⊎_, inl, inr, ⊎-elim}
 use Prim.Native.Nat.{ℕ, zero, suc, _+_, _-_, _*_, _/_, _%_, _^_, _<_, _≤_}
@@ -13,7 +13,7 @@ use borrow.Author.Tests.{leb-true, leb-false, lt-leb, ltb-true, ltb-false, lt-lt
 use Rattle.rules.specs.Types.{Extent, Extents, Ring, Tables}
 use Rattle.rules.specs.Limits.{guestLimit, extentLimit, realPages, hostPages}
 use Rattle.rules.specs.Kept.{blankExtent, guestAt, extentAt, present, extentsOf, withTail}
-use Rattle.rules.specs.Real.{high, valid}
+use Rattle.rules.specs.Real.{high, holds, reach, valid}
 use Rattle.rules.specs.Image.{extentRight, extentsRight, ascend}
 use Rattle.rules.specs.Queues.{nextTail, hasRoom, forward}
 use Rattle.rules.specs.Rulings.{if_then_else_}
@@ -23,11 +23,15 @@ use Rattle.rules.proofs.Tests.{and-left, and-right}
 
 -- "a range that passes 2^64 is not" valid
 
-past-each : (xs : List Extent) (a n : ℕ) → ((i : ℕ) → i < length xs → high (getD xs i blankExtent) < a + n) → valid xs a n ≡ false
-unfolding valid
-past-each [] a n h = refl
-past-each (x ∷ xs) a n h =
-    rw (lt-leb (a + n) (high x) (h 0 (omega arith)), and-false) (past-each xs a n (λ i l. h (suc i) (omega arith)))
+-- what is reached lies no further than the ends of the extents
+reached : (xs : List Extent) (a most : ℕ) → a ≤ most → ((i : ℕ) → i < length xs → high (getD xs i blankExtent) ≤ most) → reach xs a ≤ most
+unfolding reach
+reached [] a most l h = l
+reached (x ∷ xs) a most l h = reached xs (cond (holds x a) (high x) a) most (go (holds x a)) (λ i k. h (suc i) (omega arith))
+  where
+    go : (t : Bool) → cond t (high x) a ≤ most
+    go true = h 0 (omega arith)
+    go false = l
 
 -- an extent of the image ends at 2^41 at the latest
 ends-early : (x : Extent) → extentRight x ≡ true → high x ≤ 2 ^ 41
@@ -36,11 +40,12 @@ ends-early x e =
     omega (arith, leb-true (x .real + x .count) realPages (and-left _ (leb (x .host + x .count) hostPages) (and-right (leb 1 (x .count)) _ e)))
 
 -- of extents that keep the image's rule on each of them
-pub passing-invalid : (extents : Extents) → extentsRight extents ≡ true → (base n : ℕ) → 2 ^ 64 < base + n → valid (present extents) base n ≡ false
-unfolding extentsRight
-passing-invalid extents e base n p = past-each (present extents) base n below
+pub passing-invalid : (extents : Extents) → extentsRight extents ≡ true → (base n : ℕ) → base < 2 ^ 64 → 2 ^ 64 < base + n → valid (present extents) base n ≡ false
+unfolding extentsRight valid
+passing-invalid extents e base n b p =
+    lt-leb (base + n) (reach (present extents) base) (omega (arith, reached (present extents) base (2 ^ 64) (omega arith) below))
   where
-    below : (i : ℕ) → i < length (present extents) → high (getD (present extents) i blankExtent) < base + n
+    below : (i : ℕ) → i < length (present extents) → high (getD (present extents) i blankExtent) ≤ 2 ^ 64
     below i l =
         let k : i < extents .extents = omega (arith, length-take (extents .extents) (extents .extent)) in
         rw (getD-take (extents .extents) (extents .extent) i blankExtent k) (omega (arith, ends-early (extentAt extents i) (all-at (λ j. extentRight (extentAt extents j)) (extents .extents) i e k)))
@@ -60,11 +65,11 @@ extents-right extents e =
     (and-left _ (ascend extents) (and-right (leb 1 (extents .extents)) _ e)))
 
 pub passing-invalid-for : (tables : Tables) → keepRules tables ≡ true → (g : ℕ) → g < tables .guests
-    → (base n : ℕ) → 2 ^ 64 < base + n → valid (extentsOf tables g) base n ≡ false
+    → (base n : ℕ) → base < 2 ^ 64 → 2 ^ 64 < base + n → valid (extentsOf tables g) base n ≡ false
 unfolding keepRules guestKeeps
-passing-invalid-for tables e g h base n p =
+passing-invalid-for tables e g h base n b p =
     let kept = there guestLimit (tables .guests) (λ k. guestKeeps (guestAt tables k)) (λ k. guestBlank (guestAt tables k)) (and-left _ _ e) g h in
-    passing-invalid (guestAt tables g .extents) (extents-right (guestAt tables g .extents) (and-left (extentsKeep (guestAt tables g .extents)) _ kept)) base n p
+    passing-invalid (guestAt tables g .extents) (extents-right (guestAt tables g .extents) (and-left (extentsKeep (guestAt tables g .extents)) _ kept)) base n b p
 
 -- "A ring is full when tail + 64, modulo its size, is head: it holds n-1."
 

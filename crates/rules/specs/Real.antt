@@ -1,9 +1,9 @@
--- "A real address and a host offset": what a guest sees of memory through its extents. `valid` and `located` are the only
--- places that say where a real address lies; every other rule speaks of a Sight.
+-- "A real address and a host offset": what a guest sees of memory through its extents. `located` is the only place that says
+-- where a real address lies, and `valid` which ranges are a guest's own; every other rule speaks of a Sight.
 use Prim.Native.Nat.{ℕ, zero, suc, _+_, _-_, _*_, _/_, _%_, _^_}
-use mathlib.Core.Bool.{Bool, false, _&&_, _||_, cond}
+use mathlib.Core.Bool.{Bool, _&&_, cond}
 use mathlib.Core.List.{List, [], _∷_}
-use lib.Dec.{leb}
+use lib.Dec.{leb, ltb}
 use lib.ListN.{getD, set}
 use Rattle.rules.specs.Types.{Real, Host, Place, Extent}
 use Rattle.rules.specs.Limits.{pageSize}
@@ -19,20 +19,26 @@ high x = (x .real + x .count) * pageSize
 abbrev pub hostOffset : Extent → Real → Host
 hostOffset x a = record { 0 = x .host * pageSize + (a .0 - low x) }
 
--- all of the n bytes from a on lie in the extent. The numbers here are unbounded, so that the sum cannot wrap; an extent ends
--- far below 2^64, so "a range that passes 2^64 is not" valid.
-abbrev pub holds : Extent → ℕ → ℕ → Bool
-holds x a n = leb (low x) a && leb (a + n) (high x)
+-- the real address a is one of the extent's
+abbrev pub holds : Extent → ℕ → Bool
+holds x a = leb (low x) a && ltb a (high x)
 
--- "A range of real addresses is valid for a guest if all of it lies in one of its extents."
+-- where the real address a lies on the host
+unfoldable pub located : List Extent → ℕ → Place
+located [] a = Place.Nowhere
+located (x ∷ xs) a = cond (holds x a) (Place.At (hostOffset x (record { 0 = a }))) (located xs a)
+
+-- how far every address from a on lies in some extent: where an extent has the address that was reached, to that extent's end.
+-- "a guest's extents ascend", so one that goes on from there stands behind it in the list.
+unfoldable pub reach : List Extent → ℕ → ℕ
+reach [] a = a
+reach (x ∷ xs) a = reach xs (cond (holds x a) (high x) a)
+
+-- "A range is valid .. if every one of its bytes lies in some extent of the guest": its end is reached. That this is each byte of
+-- it, one by one, is the promise `each-byte`. The numbers here are unbounded, so that the sum cannot wrap; an extent ends far below
+-- 2^64, so "a range that passes 2^64 is not" valid.
 unfoldable pub valid : List Extent → ℕ → ℕ → Bool
-valid [] a n = false
-valid (x ∷ xs) a n = holds x a n || valid xs a n
-
--- where the range of n bytes from a on starts on the host
-unfoldable pub located : List Extent → ℕ → ℕ → Place
-located [] a n = Place.Nowhere
-located (x ∷ xs) a n = cond (holds x a n) (Place.At (hostOffset x (record { 0 = a }))) (located xs a n)
+valid extents a n = leb (a + n) (reach extents a)
 
 -- the byte of the host's memory at a place; 0 where there is none
 abbrev pub byteThere : List ℕ → Place → ℕ
@@ -41,7 +47,7 @@ byteThere memory (Place.At h) = getD memory (h .0) 0
 
 -- the byte at the real address a
 unfoldable pub byteAt : List Extent → List ℕ → ℕ → ℕ
-byteAt extents memory a = byteThere memory (located extents a 1)
+byteAt extents memory a = byteThere memory (located extents a)
 
 -- what a plant sees of memory: which ranges are its own, and the byte at each real address
 pub record Sight : Type 0 where
@@ -87,7 +93,7 @@ putThere memory (Place.At h) v = set memory (h .0) v
 -- with bytes from the real address a on, each put where its own address lies
 unfoldable pub putBytes : List Extent → List ℕ → ℕ → List ℕ → List ℕ
 putBytes extents memory a [] = memory
-putBytes extents memory a (v ∷ vs) = putBytes extents (putThere memory (located extents a 1) v) (suc a) vs
+putBytes extents memory a (v ∷ vs) = putBytes extents (putThere memory (located extents a) v) (suc a) vs
 
 -- with a list of writes done, in order
 unfoldable pub apply : List Extent → List ℕ → List Write → List ℕ

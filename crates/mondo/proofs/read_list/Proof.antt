@@ -27,7 +27,7 @@ mul-at c = omega arith
 add-at : tie.Need-add-at Inv-loop μ-loop
 add-at c =
     let s = c .before .before .before in
-    omega (arith, range-ends (s .args .extents) _ (s .args .list) (2 * s .args .count) (s .good .0) (s .pre .1 .1))
+    omega (arith, range-ends (s .args .extents) _ (s .args .list) (2 * s .args .count) (s .good .0) (s .pre .1 .1) (omega arith))
 
 number2-requires : tie.Need-number2-requires Inv-loop μ-loop
 number2-requires c κs =

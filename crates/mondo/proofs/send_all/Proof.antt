@@ -45,7 +45,7 @@ add-mark : tie.Need-add-mark Inv-loop μ-loop
 add-mark c =
     let l = c .before .before in
     let s = l .before .before .before in
-    omega (arith, range-ends (s .args .extents) _ (s .args .list) (2 * s .args .count) (s .good .0) (s .pre .1 .1 .1))
+    omega (arith, range-ends (s .args .extents) _ (s .args .list) (2 * s .args .count) (s .good .0) (s .pre .1 .1 .1) (omega arith))
 
 mul-c : tie.Need-mul-c Inv-loop μ-loop
 mul-c c =

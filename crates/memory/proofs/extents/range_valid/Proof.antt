@@ -1,23 +1,21 @@
--- `range_valid` meets its contract: a range is valid where it lies somewhere.
+-- `range_valid` meets its contract: a range is valid where its end is reached.
+use native.Mathlib.Omega.{arith}
 use borrow.Author.Needs.{needs}
-use Rattle.memory.proofs.Holds.{at-valid, nowhere-valid}
+use Rattle.memory.specs.Ready.{present}
+use Rattle.memory.proofs.Reached.{reach-from, valid-is}
 use Rattle.memory.proofs.extents.range_valid.Statement.{statement}
 use Rattle.memory.proofs.extents.range_valid.Tie as tie
 
-locate-requires : tie.Need-locate-requires
-locate-requires c κs = search needs
+reached-requires : tie.Need-reached-requires
+reached-requires c κs = search needs
 
-enum-told : tie.Need-enum-told
-enum-told c = search needs
-
-enum-told-2 : tie.Need-enum-told-2
-enum-told-2 c = search needs
+sub-own : tie.Need-sub-own
+sub-own c =
+    let s = c .before in
+    omega (arith, c .reached .ensures, reach-from (present (s .args .e)) (s .args .base))
 
 returns : tie.Need-returns
-returns c = search nowhere-valid
-
-returns-2 : tie.Need-returns-2
-returns-2 c = search at-valid
+returns c = search valid-is
 
 pub range-valid-spec : {M : Type 1} → statement M
-range-valid-spec = tie.close (tie.spec locate-requires enum-told enum-told-2 returns returns-2)
+range-valid-spec = tie.close (tie.spec reached-requires sub-own returns)

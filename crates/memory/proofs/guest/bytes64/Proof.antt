@@ -1,17 +1,18 @@
--- `bytes64` meets its contract: the run of host bytes is what the guest sees.
+-- `bytes64` meets its contract: all 64 bytes were read.
+use mathlib.Core.Path.{_∙_}
 use borrow.Author.Needs.{needs}
-use Rattle.memory.proofs.Places.{run-fits, bytes-seen}
+use Rattle.memory.proofs.Stores.{read-whole}
 use Rattle.memory.proofs.guest.bytes64.Statement.{statement}
 use Rattle.memory.proofs.guest.bytes64.Tie as tie
 
-start-requires : tie.Need-start-requires
-start-requires c κs = search needs
+slice-aggregate-read-at : tie.Need-slice-aggregate-read-at
+slice-aggregate-read-at c = search needs
 
-copy64-requires : tie.Need-copy64-requires
-copy64-requires c κs = search run-fits
+read-at-requires : tie.Need-read-at-requires
+read-at-requires c κs = search needs
 
 returns : tie.Need-returns
-returns c = search bytes-seen
+returns c = c .before .read-at .ensures ∙ read-whole _ _ 64
 
 pub bytes64-spec : {M : Type 1} → statement M
-bytes64-spec = tie.close (tie.spec start-requires copy64-requires returns)
+bytes64-spec = tie.close (tie.spec slice-aggregate-read-at read-at-requires returns)

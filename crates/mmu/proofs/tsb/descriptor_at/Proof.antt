@@ -16,7 +16,7 @@ use Rattle.mmu.proofs.tsb.descriptor_at.Tie as tie
 
 -- the range, and a field of it
 ends : (s : tie.Start) → s .args .real .0 + 32 < 2 ^ 64
-ends s = range-ends (s .args .extents) _ _ _ (s .good .0) (s .pre .1 .1)
+ends s = range-ends (s .args .extents) _ _ _ (s .good .0) (s .pre .1 .1) (omega arith)
 
 within : (s : tie.Start) (k n : ℕ) → k + n ≤ 32
     → (s .args .extents .extents ≤ extentLimit) × (Ready (present (s .args .extents)) (length (s .args .mem .now)) × (valid (present (s .args .extents)) (s .args .real .0 + k) n ≡ true))

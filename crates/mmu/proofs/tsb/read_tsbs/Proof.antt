@@ -38,7 +38,7 @@ mul-at c = omega arith
 add-at : tie.Need-add-at Inv-loop μ-loop
 add-at c =
     let s = c .before .before .before .before .before in
-    omega (arith, range-ends (s .args .extents) _ (s .args .pointer) (32 * s .args .count) (s .good .0) (s .pre .1 .1))
+    omega (arith, range-ends (s .args .extents) _ (s .args .pointer) (32 * s .args .count) (s .good .0) (s .pre .1 .1) (omega arith))
 
 descriptor-at-requires : tie.Need-descriptor-at-requires Inv-loop μ-loop
 descriptor-at-requires c κs =

@@ -35,7 +35,7 @@ add-at : tie.Need-add-at
 add-at c = let d = c .before .before .before .before .before .before in
     let s = d .before .before .before in
     let r = found d in
-    omega (arith, r .tail-below, range-ends (s .args .extents) _ _ _ (s .good .0) (r .within))
+    omega (arith, r .tail-below, range-ends (s .args .extents) _ _ _ (s .good .0) (r .within) (omega (arith, r .tail-below)))
 
 write-at-requires : tie.Need-write-at-requires
 write-at-requires c κs = let d = c .before .before .before .before .before .before .before .before in
