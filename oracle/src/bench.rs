@@ -3,8 +3,37 @@
 
 use std::io::{self, Write};
 
-/// The lines of a cycle, from its number.
-type Cycle = fn(u64) -> String;
+/// A session: how its guest lies in memory, and a cycle's lines by its number.
+pub struct Kind {
+    layout: Layout,
+    cycle: fn(u64) -> String,
+}
+
+/// The guest's counts and extents in the image, and what fills its last byte;
+/// its device ring; the entries and base of the TSB descriptor at 400.
+struct Layout {
+    extents: &'static str,
+    fill: &'static str,
+    devices: u64,
+    tsb: [u64; 2],
+}
+
+/// Four pages in one extent.
+const PLAIN: Layout = Layout {
+    extents: "530 0000000 0004 0000",
+    fill: "",
+    devices: 0x6000,
+    tsb: [512, 0x6000],
+};
+
+/// Four extents that touch in real pages, on host pages 2, 0, 3 and 1. The TSB
+/// lies over the seam at 6000, and so do other ranges of the session.
+const TOUCHING: Layout = Layout {
+    extents: "590 0000000 0001 0002 0000001 0001 0000 0000002 0001 0003 0000003 0001 0001",
+    fill: " 0",
+    devices: 0x7000,
+    tsb: [1024, 0x4000],
+};
 
 const SOURCES: u64 = 16;
 /// Each takes a mondo of every send; cpu 0 sends.
@@ -12,23 +41,25 @@ const RECEIVERS: u64 = 4;
 const RING: u64 = 64;
 const ENTRY: u64 = 64;
 
-pub fn cycle(kind: &str) -> Option<Cycle> {
-    match kind {
-        "mix" => Some(mix),
-        "raise" => Some(raises),
-        "mondo" => Some(mondos),
-        _ => None,
-    }
+pub fn kind(name: &str) -> Option<Kind> {
+    let (layout, cycle): (_, fn(u64) -> String) = match name {
+        "mix" => (PLAIN, mix),
+        "raise" => (PLAIN, raises),
+        "mondo" => (PLAIN, mondos),
+        "seams" => (TOUCHING, seams),
+        _ => return None,
+    };
+    Some(Kind { layout, cycle })
 }
 
-pub fn write_session(cycle: Cycle, lines: u64, output: &mut impl Write) -> io::Result<()> {
+pub fn write_session(kind: &Kind, lines: u64, output: &mut impl Write) -> io::Result<()> {
     let mut left = lines;
-    write_lines(&opening(), &mut left, output)?;
+    write_lines(&opening(&kind.layout), &mut left, output)?;
     for number in 0.. {
         if left == 0 {
             break;
         }
-        write_lines(&cycle(number), &mut left, output)?;
+        write_lines(&(kind.cycle)(number), &mut left, output)?;
     }
     Ok(())
 }
@@ -42,14 +73,15 @@ fn write_lines(text: &str, left: &mut u64, output: &mut impl Write) -> io::Resul
 }
 
 /// One guest of five cpus, four pages and sixteen sources that are enabled
-/// and go to cpu 0; its device ring at 6000 and a mondo ring for each receiver.
-fn opening() -> String {
-    let mut text = String::from("image 11 530 0000000 0004 0000");
+/// and go to cpu 0; its device ring and a mondo ring for each receiver.
+fn opening(layout: &Layout) -> String {
+    let mut text = format!("image 11 {}", layout.extents);
     for source in 0..SOURCES {
         text += &format!(" {:07x} 0b", 0x100 + source);
     }
+    text += layout.fill;
     text += "\ncall 0 0 ff 0 1 1\ncall 0 0 ff 0 2 2\ncall 0 0 ff 0 200 1\n";
-    text += &format!("call 0 0 80 14 3d 6000 {RING:x}\n");
+    text += &format!("call 0 0 80 14 3d {:x} {RING:x}\n", layout.devices);
     for cpu in 1..=RECEIVERS {
         text += &format!("call 0 {cpu} 80 14 3c {:x} {RING:x}\n", ENTRY * RING * cpu);
     }
@@ -58,8 +90,8 @@ fn opening() -> String {
         text += &format!("call 0 0 80 ae {source:x} 5 0\n");
         text += &format!("call 0 0 80 aa {source:x} 5 1\n");
     }
-    // A TSB descriptor at 400 for the mix.
-    text + "store 0 400 0000000100000200\nstore 0 408 1\nstore 0 410 6000\n"
+    let [entries, base] = layout.tsb;
+    text + &format!("store 0 400 00000001{entries:08x}\nstore 0 408 1\nstore 0 410 {base:x}\n")
 }
 
 /// The head behind the entries of this many cycles.
@@ -95,21 +127,59 @@ fn mondos(number: u64) -> String {
     text
 }
 
-/// Every call once or more, with a raise, a mondo and two refusals.
+/// Where the ranges of a mix lie.
+struct Ranges {
+    ring: &'static str,
+    statistics: u64,
+    /// The stores that write the list 1, 2, 3, 4, and where it begins.
+    stores: &'static str,
+    list: u64,
+    devices: u64,
+}
+
+/// Each in one extent.
 fn mix(number: u64) -> String {
+    let ranges = Ranges {
+        ring: "5000 20",
+        statistics: 0x800,
+        stores: "store 0 0 0001000200030004",
+        list: 0,
+        devices: PLAIN.devices,
+    };
+    every_call(number, &ranges)
+}
+
+/// A ring, the statistics and the list over the seam at 6000; the sync over all.
+fn seams(number: u64) -> String {
+    let ranges = Ranges {
+        ring: "4000 100",
+        statistics: 0x5e40,
+        stores: "store 0 5ff8 00010002\nstore 0 6000 0003000400000000",
+        list: 0x5ffc,
+        devices: TOUCHING.devices,
+    };
+    every_call(number, &ranges)
+}
+
+/// Every call once or more, with a raise, a mondo and two refusals.
+fn every_call(number: u64, ranges: &Ranges) -> String {
     let source = 0x100 + number % SOURCES;
     let next = head_after(number + 1);
+    let Ranges { ring, stores, .. } = ranges;
     format!(
         "call 0 0 ff 0 1 1\ncall 0 0 ff 3 2\ncall 0 0 80 16\ncall 0 0 80 15 3d
-call 0 0 80 14 3e 5000 20\nhead 0 0 3e 0\ncall 0 0 80 20 1 400\ncall 0 0 80 21 0
-call 0 0 80 32 0 8000\ncall 0 0 80 102 800\ncall 0 0 80 103\nraise {source:x} 5
+call 0 0 80 14 3e {ring}\nhead 0 0 3e 0\ncall 0 0 80 20 1 400\ncall 0 0 80 21 0
+call 0 0 80 32 0 8000\ncall 0 0 80 102 {:x}\ncall 0 0 80 103\nraise {source:x} 5
 load 0 {:x}\nhead 0 0 3d {next:x}\ncall 0 0 80 ab {source:x} 5\ncall 0 0 80 ac {source:x} 5 0
 call 0 0 80 a7 {source:x} 5\ncall 0 0 80 a8 {source:x} 5 {:x}\ncall 0 0 80 a9 {source:x} 5
 call 0 0 80 aa {source:x} 5 1\ncall 0 0 80 ad {source:x} 5\ncall 0 0 80 ae {source:x} 5 0
-store 0 0 0001000200030004\nstore 0 40 {number:x}\ncall 0 0 80 42 4 0 40\nload 0 0
+{stores}\nstore 0 40 {number:x}\ncall 0 0 80 42 4 {:x} 40\nload 0 {:x}
 head 0 1 3c {next:x}\nhead 0 2 3c {next:x}\nhead 0 3 3c {next:x}\nhead 0 4 3c {next:x}
 call 0 0 80 a8 200 5 800\ncall 0 0 80 14 3c 40 2\n",
-        0x6000 + head_after(number),
+        ranges.statistics,
+        ranges.devices + head_after(number),
         0x900 + number % 256,
+        ranges.list,
+        ranges.list & !7,
     )
 }

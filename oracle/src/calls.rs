@@ -1,7 +1,7 @@
 //! Which calls exist, versions, and the calls on memory and statistics.
 
 use crate::model::{value, Outcome, Status, DONE};
-use crate::tables::{Group, Guest, HostOffset, RealAddress, PAGE_SIZE};
+use crate::tables::{Group, Guest, RealAddress, PAGE_SIZE};
 
 /// At most this much is zeroed by one scrub.
 const SCRUB_LIMIT: u64 = 32_768;
@@ -12,6 +12,15 @@ pub struct Caller<'a> {
     pub guest: &'a mut Guest,
     pub cpuid: usize,
     pub memory: &'a mut [u8],
+}
+
+impl Guest {
+    pub fn accept_range(&self, start: RealAddress, length: u64) -> Result<(), Status> {
+        match self.is_valid(start, length) {
+            true => Ok(()),
+            false => Err(Status::ENORADDR),
+        }
+    }
 }
 
 impl Caller<'_> {
@@ -77,25 +86,27 @@ impl Caller<'_> {
     }
 
     fn scrub(&mut self, address: RealAddress, length: u64) -> Outcome {
-        let HostOffset(at) = self.page_range(address, length)?;
+        self.accept_pages(address, length)?;
         let scrubbed = length.min(SCRUB_LIMIT);
-        self.memory[at..at + scrubbed as usize].fill(0);
+        for piece in self.guest.pieces(address, scrubbed) {
+            self.memory[piece.bytes()].fill(0);
+        }
         value(scrubbed)
     }
 
     fn sync(&self, address: RealAddress, length: u64) -> Outcome {
-        self.page_range(address, length)?;
+        self.accept_pages(address, length)?;
         value(length)
     }
 
-    fn page_range(&self, address: RealAddress, length: u64) -> Result<HostOffset, Status> {
+    fn accept_pages(&self, address: RealAddress, length: u64) -> Result<(), Status> {
         if length == 0 {
             return Err(Status::EINVAL);
         }
         if !address.is_on(PAGE_SIZE) || !length.is_multiple_of(PAGE_SIZE) {
             return Err(Status::EBADALIGN);
         }
-        self.guest.place(address, length).ok_or(Status::ENORADDR)
+        self.guest.accept_range(address, length)
     }
 
     fn statistics_call(&mut self, function: u64, address: RealAddress) -> Outcome {
@@ -121,7 +132,6 @@ impl Caller<'_> {
         if !address.is_on(64) {
             return Err(Status::EBADALIGN);
         }
-        let place = self.guest.place(address, STATISTICS_SIZE);
-        place.map(|_| ()).ok_or(Status::ENORADDR)
+        self.guest.accept_range(address, STATISTICS_SIZE)
     }
 }

@@ -12,6 +12,7 @@ mod partition;
 mod queue_steps;
 mod random;
 mod refusal_steps;
+mod seam_steps;
 mod source_steps;
 
 use crate::model::Host;
@@ -68,7 +69,7 @@ const STEPS: [(u64, Step); 20] = [
     (3, Generator::unknown_step),
     (2, Generator::any_call_step),
     (8, Generator::refusal_step),
-    (5, Generator::seam_step),
+    (9, Generator::seam_step),
     (1, Generator::upgrade_step),
     (1, Generator::long_ring_step),
     (5, Generator::malformed_step),
@@ -318,7 +319,7 @@ impl Generator {
         let first = address - address % 8;
         let behind = address.saturating_add(bytes.len() as u64);
         for word in (first..behind).step_by(8) {
-            let Some(HostOffset(at)) = self.guest(guest).place(RealAddress(word), 8) else {
+            let Some(HostOffset(at)) = self.guest(guest).place(RealAddress(word)) else {
                 return;
             };
             let mut content = [0; 8];

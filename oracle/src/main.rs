@@ -23,7 +23,7 @@ const BUFFER: usize = 1 << 16;
 const USAGE: &str = "usage: oracle
        oracle generate --seed S --lines N
        oracle coverage --seed S --lines N
-       oracle bench-session mix|raise|mondo --lines N";
+       oracle bench-session mix|raise|mondo|seams --lines N";
 
 fn main() -> ExitCode {
     let arguments: Vec<String> = std::env::args().skip(1).collect();
@@ -53,8 +53,8 @@ fn run(arguments: &[&str]) -> io::Result<()> {
             coverage::report(number(seed)?, number(lines)?, &mut output)
         }
         ["bench-session", kind, "--lines", lines] => {
-            let cycle = bench::cycle(kind).ok_or_else(misused)?;
-            bench::write_session(cycle, number(lines)?, &mut output)
+            let kind = bench::kind(kind).ok_or_else(misused)?;
+            bench::write_session(&kind, number(lines)?, &mut output)
         }
         _ => Err(misused()),
     }?;

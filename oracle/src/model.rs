@@ -166,5 +166,5 @@ fn word_place(guest: &Guest, address: RealAddress) -> Result<HostOffset, Status>
     if !address.is_on(8) {
         return Err(Status::EBADALIGN);
     }
-    guest.place(address, 8).ok_or(Status::ENORADDR)
+    guest.place(address).ok_or(Status::ENORADDR)
 }

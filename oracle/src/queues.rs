@@ -11,6 +11,9 @@ pub const DEVICE_MONDO: usize = 1;
 /// What a list entry becomes once its mondo is sent.
 const SENT: u16 = 0xffff;
 
+/// The most entries of a list.
+const LIST_LIMIT: usize = 64;
+
 const ENTRY_BYTES: usize = ENTRY_SIZE as usize;
 
 pub type Entry = [u8; ENTRY_BYTES];
@@ -33,7 +36,7 @@ impl Guest {
             return false;
         }
         let at = RealAddress(ring.base.0 + ring.tail);
-        let Some(HostOffset(at)) = self.place(at, ENTRY_SIZE) else {
+        let Some(HostOffset(at)) = self.place(at) else {
             return false;
         };
         memory[at..at + ENTRY_BYTES].copy_from_slice(entry);
@@ -62,7 +65,7 @@ impl Caller<'_> {
         if !base.is_on(size) {
             return Err(Status::EBADALIGN);
         }
-        self.guest.place(base, size).ok_or(Status::ENORADDR)?;
+        self.guest.accept_range(base, size)?;
         Ok(Some(Ring {
             base,
             size,
@@ -92,27 +95,29 @@ impl Caller<'_> {
     }
 
     pub fn send_mondo(&mut self, count: u64, list: RealAddress, data: RealAddress) -> Outcome {
-        if count == 0 || count > 64 {
+        if count == 0 || count > LIST_LIMIT as u64 {
             return Err(Status::EINVAL);
         }
         if !data.is_on(ENTRY_SIZE) || !list.is_on(2) {
             return Err(Status::EBADALIGN);
         }
-        let data = self.guest.place(data, ENTRY_SIZE).ok_or(Status::ENORADDR)?;
-        let list = self.guest.place(list, 2 * count).ok_or(Status::ENORADDR)?;
+        self.guest.accept_range(data, ENTRY_SIZE)?;
+        self.guest.accept_range(list, 2 * count)?;
 
         // Both are read before any write, because they and the rings may overlap.
-        let mut cpus = [0; 64];
+        let mut cpus = [0; LIST_LIMIT];
         let cpus = &mut cpus[..count as usize];
         self.read_list(list, cpus);
         self.accept_list(cpus)?;
         let mut entry = [0; ENTRY_BYTES];
-        entry.copy_from_slice(&self.memory[data.0..data.0 + ENTRY_BYTES]);
+        self.guest.read(data, self.memory, &mut entry);
         self.deliver(list, cpus, &entry)
     }
 
-    fn read_list(&self, list: HostOffset, cpus: &mut [u16]) {
-        let bytes = &self.memory[list.0..list.0 + 2 * cpus.len()];
+    fn read_list(&self, list: RealAddress, cpus: &mut [u16]) {
+        let mut bytes = [0; 2 * LIST_LIMIT];
+        let bytes = &mut bytes[..2 * cpus.len()];
+        self.guest.read(list, self.memory, bytes);
         for (cpu, pair) in cpus.iter_mut().zip(bytes.chunks_exact(2)) {
             *cpu = u16::from_be_bytes([pair[0], pair[1]]);
         }
@@ -131,16 +136,22 @@ impl Caller<'_> {
         Ok(())
     }
 
+    /// Each entry is marked where it lies: a seam may be before it.
+    fn mark(&mut self, entry: RealAddress) {
+        if let Some(HostOffset(at)) = self.guest.place(entry) {
+            self.memory[at..at + 2].copy_from_slice(&SENT.to_be_bytes());
+        }
+    }
+
     /// In list order, for each entry the data first and then the mark.
-    fn deliver(&mut self, list: HostOffset, cpus: &[u16], entry: &Entry) -> Outcome {
+    fn deliver(&mut self, list: RealAddress, cpus: &[u16], entry: &Entry) -> Outcome {
         let mut any_left = false;
         for (position, &cpu) in cpus.iter().enumerate() {
             if self
                 .guest
                 .append(usize::from(cpu), CPU_MONDO, entry, self.memory)
             {
-                let at = list.0 + 2 * position;
-                self.memory[at..at + 2].copy_from_slice(&SENT.to_be_bytes());
+                self.mark(RealAddress(list.0 + 2 * position as u64));
             } else {
                 any_left = true;
             }

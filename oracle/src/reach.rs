@@ -4,7 +4,7 @@
 use crate::coverage::kind;
 use crate::model::{Event, Host};
 use crate::session::{self, parse, Line};
-use crate::tables::{Guest, HostOffset, RealAddress};
+use crate::tables::{Guest, RealAddress};
 use std::collections::{BTreeMap, BTreeSet};
 
 /// By kind of line and what the number is of.
@@ -37,8 +37,12 @@ pub fn reach_of(text: &[u8]) -> Reach {
     reach
 }
 
-/// What an event names, on the tables before it.
+/// What an event names, on the tables before it. No event is accepted while
+/// the memory ends before an extent does.
 fn named(host: &Host, event: &Event) -> Named {
+    if host.tables.host_end > host.memory.len() as u64 {
+        return Named::new();
+    }
     match *event {
         Event::Call {
             guest,
@@ -70,14 +74,10 @@ fn named(host: &Host, event: &Event) -> Named {
 fn named_by_call(guest: &Guest, memory: &[u8], function: u64, arguments: [u64; 5]) -> Named {
     let [first, second, third, ..] = arguments;
     let queue = ("queue", first.wrapping_sub(0x3c) as usize);
-    match function {
-        0x14 if third == 0 => vec![queue],
-        0x14 => [queue].into_iter().chain(extent(guest, second)).collect(),
-        0x15 => vec![queue],
-        0x20 | 0x21 if first > 0 => extent(guest, second).into_iter().collect(),
-        0x31 | 0x32 => extent(guest, first).into_iter().collect(),
+    let mut named = match function {
+        0x14 | 0x15 => vec![queue],
+        0x20 | 0x21 => areas(guest, memory, first, second),
         0x42 => mondo_targets(guest, memory, first, second),
-        0x102 if first > 0 => extent(guest, first).into_iter().collect(),
         0xa6 => vec![("source", first as usize), ("target", second as usize)],
         0xa1..=0xa5 => vec![("source", first as usize)],
         0xae => [("target", third as usize)]
@@ -86,19 +86,59 @@ fn named_by_call(guest: &Guest, memory: &[u8], function: u64, arguments: [u64; 5
             .collect(),
         0xa0 | 0xa7..=0xad => source(guest, first, second).into_iter().collect(),
         _ => Named::new(),
+    };
+    if let Some((start, length)) = range(function, arguments) {
+        named.extend(extent(guest, start));
+        let pieces = guest.pieces(RealAddress(start), length);
+        named.push(("pieces", pieces.count()));
+    }
+    named
+}
+
+/// The range of real addresses that a call names: its first and its length.
+pub fn range(function: u64, [first, second, third, ..]: [u64; 5]) -> Option<(u64, u64)> {
+    match function {
+        0x14 if third > 0 => Some((second, third.saturating_mul(64))),
+        0x20 | 0x21 if first > 0 => Some((second, first.saturating_mul(32))),
+        0x31 | 0x32 => Some((first, second)),
+        0x42 => Some((second, first.saturating_mul(2))),
+        0x102 if first > 0 => Some((first, 512)),
+        _ => None,
     }
 }
 
-/// Also which extent the list is in.
+/// What a range that is valid and not too long holds.
+fn content(guest: &Guest, memory: &[u8], start: u64, length: u64) -> Option<Vec<u8>> {
+    let fits = length <= 128 && guest.is_valid(RealAddress(start), length);
+    fits.then(|| {
+        let mut bytes = vec![0; length as usize];
+        guest.read(RealAddress(start), memory, &mut bytes);
+        bytes
+    })
+}
+
 fn mondo_targets(guest: &Guest, memory: &[u8], count: u64, list: u64) -> Named {
-    let mut named: Named = extent(guest, list).into_iter().collect();
-    let length = 2 * count.min(64);
-    if let Some(HostOffset(at)) = guest.place(RealAddress(list), length) {
-        let entries = memory.get(at..at + length as usize).unwrap_or(&[]);
-        let entries = entries.chunks_exact(2);
-        named.extend(entries.map(|e| ("target", usize::from(u16::from_be_bytes([e[0], e[1]])))));
-    }
-    named
+    let bytes = content(guest, memory, list, count.saturating_mul(2)).unwrap_or_default();
+    let entries = bytes.chunks_exact(2);
+    let entries = entries.map(|e| u16::from_be_bytes([e[0], e[1]]));
+    entries.map(|cpu| ("target", usize::from(cpu))).collect()
+}
+
+/// The areas of TSB descriptors: their ranges, as the list has them.
+pub fn tsb_areas(guest: &Guest, memory: &[u8], ntsb: u64, pointer: u64) -> Vec<(u64, u64)> {
+    let bytes = content(guest, memory, pointer, ntsb.saturating_mul(32)).unwrap_or_default();
+    let field = |bytes: &[u8]| bytes.iter().fold(0, |n, &byte| n << 8 | u64::from(byte));
+    let descriptors = bytes.chunks_exact(32);
+    descriptors
+        .map(|d| (field(&d[16..24]), 16 * field(&d[4..8])))
+        .collect()
+}
+
+/// In how many pieces each area lies.
+fn areas(guest: &Guest, memory: &[u8], ntsb: u64, pointer: u64) -> Named {
+    let areas = tsb_areas(guest, memory, ntsb, pointer).into_iter();
+    let pieces = areas.map(|(start, length)| guest.pieces(RealAddress(start), length));
+    pieces.map(|pieces| ("area", pieces.count())).collect()
 }
 
 fn named_by_raise(host: &Host, devhandle: u64, devino: u64) -> Named {

@@ -1,5 +1,7 @@
 //! The host's tables: what is kept for each guest, cpu, queue and source.
 
+use std::ops::Range;
+
 pub const PAGE_SIZE: u64 = 8192;
 pub const ENTRY_SIZE: u64 = 64;
 
@@ -41,13 +43,50 @@ impl Extent {
         (self.host_page + self.pages) * PAGE_SIZE
     }
 
-    /// Where the range starts on the host, if all of it lies in this extent.
-    /// Start and length come from guests, so nothing is added to them.
-    fn place(&self, start: RealAddress, length: u64) -> Option<HostOffset> {
+    /// This extent from an address on, if the byte there is one of its own.
+    /// The address comes from a guest, so nothing is added to it.
+    fn rest(&self, start: RealAddress) -> Option<Piece> {
         let offset = start.0.checked_sub(self.real_start())?;
-        let rest = self.size().checked_sub(offset)?;
-        let host = self.host_page * PAGE_SIZE + offset;
-        (length <= rest).then_some(HostOffset(host as usize))
+        let length = self.size().checked_sub(offset)?;
+        let at = HostOffset((self.host_page * PAGE_SIZE + offset) as usize);
+        (length > 0).then_some(Piece { at, length })
+    }
+}
+
+/// What of a range lies in one extent: its bytes follow each other on the host.
+#[derive(Clone, Copy, Debug)]
+pub struct Piece {
+    pub at: HostOffset,
+    pub length: u64,
+}
+
+impl Piece {
+    /// Its places in the lent memory.
+    pub fn bytes(&self) -> Range<usize> {
+        self.at.0..self.at.0 + self.length as usize
+    }
+}
+
+/// The pieces of a range in their order, up to the first byte in no extent.
+pub struct Pieces<'a> {
+    extents: &'a [Extent],
+    start: RealAddress,
+    left: u64,
+}
+
+impl Iterator for Pieces<'_> {
+    type Item = Piece;
+
+    fn next(&mut self) -> Option<Piece> {
+        if self.left == 0 {
+            return None;
+        }
+        let rest = self.extents.iter().find_map(|e| e.rest(self.start))?;
+        let length = rest.length.min(self.left);
+        // At most the end of an extent, so the sum does not wrap.
+        self.start.0 += length;
+        self.left -= length;
+        Some(Piece { length, ..rest })
     }
 }
 
@@ -174,9 +213,38 @@ impl Guest {
         self.majors[group as usize] = major;
     }
 
-    /// Where a range starts on the host, if it is valid for this guest.
-    pub fn place(&self, start: RealAddress, length: u64) -> Option<HostOffset> {
-        self.extents.iter().find_map(|e| e.place(start, length))
+    /// Where the byte at an address lies on the host. A word on 8, a list entry
+    /// on 2 and a queue entry on 64 cross no page border: they lie there whole.
+    pub fn place(&self, address: RealAddress) -> Option<HostOffset> {
+        let piece = self.extents.iter().find_map(|e| e.rest(address));
+        piece.map(|piece| piece.at)
+    }
+
+    /// Extents may touch in real pages and lie apart on the host, so a range
+    /// is followed from one to the next.
+    pub fn pieces(&self, start: RealAddress, length: u64) -> Pieces<'_> {
+        Pieces {
+            extents: &self.extents,
+            start,
+            left: length,
+        }
+    }
+
+    /// Whether every byte of a range lies in some extent. What is added up
+    /// are parts of extents, never the numbers that the guest gave.
+    pub fn is_valid(&self, start: RealAddress, length: u64) -> bool {
+        let held: u64 = self.pieces(start, length).map(|piece| piece.length).sum();
+        held == length
+    }
+
+    /// Copies a valid range out of memory.
+    pub fn read(&self, start: RealAddress, memory: &[u8], bytes: &mut [u8]) {
+        let mut rest = bytes;
+        for piece in self.pieces(start, rest.len() as u64) {
+            let (first, behind) = rest.split_at_mut(piece.length as usize);
+            first.copy_from_slice(&memory[piece.bytes()]);
+            rest = behind;
+        }
     }
 
     /// The position of a cpuid that came from outside.

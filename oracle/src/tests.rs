@@ -6,6 +6,8 @@ mod draft;
 mod examples;
 mod readings;
 mod rules;
+mod seam_kinds;
+mod seams;
 mod sessions;
 mod text;
 

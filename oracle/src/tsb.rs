@@ -46,7 +46,7 @@ impl Fields {
         if !self.base.is_on(size) {
             return Err(Status::EBADALIGN);
         }
-        guest.place(self.base, size).ok_or(Status::ENORADDR)?;
+        guest.accept_range(self.base, size)?;
         Ok(TsbDescriptor {
             page_index: self.page_index,
             entries: self.entries,
@@ -83,11 +83,11 @@ impl Caller<'_> {
             return Err(Status::EBADALIGN);
         }
         let size = DESCRIPTOR_SIZE * ntsb as usize;
-        let place = self
-            .guest
-            .place(pointer, size as u64)
-            .ok_or(Status::ENORADDR)?;
-        let bytes = &self.memory[place.0..place.0 + size];
+        self.guest.accept_range(pointer, size as u64)?;
+        // A descriptor on 8 may lie on both sides of a seam.
+        let mut bytes = [0; DESCRIPTOR_SIZE * 4];
+        let bytes = &mut bytes[..size];
+        self.guest.read(pointer, self.memory, bytes);
         for (kept, descriptor) in list.iter_mut().zip(bytes.chunks_exact(DESCRIPTOR_SIZE)) {
             *kept = Some(Fields::read(descriptor).accept(self.guest)?);
         }

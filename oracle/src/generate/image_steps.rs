@@ -54,7 +54,11 @@ impl Generator {
 
     pub(super) fn sound_image(&mut self) {
         if self.last_image.is_empty() || self.random.one_in(2) {
-            self.last_image = Partition::in_memory(&mut self.random).pack();
+            let partition = match self.random.below(2) {
+                0 => Partition::touching(&mut self.random),
+                _ => Partition::in_memory(&mut self.random),
+            };
+            self.last_image = partition.pack();
         }
         self.image(&self.last_image.clone());
         let guest = self.random.index_or_last(self.host.tables.guests.len());

@@ -147,7 +147,13 @@ impl Generator {
 
     /// Another descriptor in one place of a list: with one fault, with two,
     /// or sound again.
-    fn spoil_list(&mut self, who: (usize, usize), function: u64, ntsb: u64, pointer: u64) {
+    pub(super) fn spoil_list(
+        &mut self,
+        who: (usize, usize),
+        function: u64,
+        ntsb: u64,
+        pointer: u64,
+    ) {
         let place = self.random.index_or_last(ntsb as usize) as u64;
         let mut descriptor = self.sound_descriptor(who.0);
         for _ in 0..self.random.pick(&[0, 1, 1, 2, 2]) {
@@ -168,7 +174,7 @@ impl Generator {
         }
     }
 
-    fn tsb_list(&mut self, guest: usize, ntsb: u64) -> Vec<u8> {
+    pub(super) fn tsb_list(&mut self, guest: usize, ntsb: u64) -> Vec<u8> {
         let spoilt = self.random.below(2 * ntsb);
         let mut bytes = Vec::new();
         for place in 0..ntsb {
@@ -189,7 +195,7 @@ impl Generator {
         let page_index = self.random.pick(&[0, 1, 3, 5]);
         let above = (!0 << page_index) & self.random.next() as u32;
         let entries = self.random.pick(&[512, 512, 512, 1024, 2048]);
-        let (start, size) = self.some_extent(guest);
+        let (start, size) = self.some_row(guest);
         let entries = if 16 * entries > size { 512 } else { entries };
         let first = start.next_multiple_of(16 * entries);
         let places = (start + size).saturating_sub(first) / (16 * entries);

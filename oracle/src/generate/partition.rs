@@ -48,6 +48,41 @@ impl Partition {
         Partition::over(&shares, random)
     }
 
+    /// A sound partition in memory of one or two guests whose extents touch in
+    /// real pages, all of them or all but one, on host pages that ascend,
+    /// descend, leap forward or are mixed.
+    pub fn touching(random: &mut Random) -> Partition {
+        let mut runs: Vec<Run> = (0..MEMORY_PAGES).map(|page| (page, 1)).collect();
+        match random.below(4) {
+            0 => runs = runs_in_memory(random),
+            // Two pages in one of three extents.
+            1 => {
+                let place = random.index(runs.len() - 1);
+                runs.remove(place + 1);
+                runs[place].1 = 2;
+            }
+            _ => (),
+        }
+        match random.below(5) {
+            0 => (),
+            1 => runs.reverse(),
+            // Every other one, and then those between them.
+            2 => runs.sort_by_key(|(page, _)| page % 2),
+            _ => random.shuffle(&mut runs),
+        }
+        let second = match random.one_in(3) {
+            true => runs.split_off(runs.len().div_ceil(2)),
+            false => Vec::new(),
+        };
+        let mut shares = vec![runs, second];
+        shares.retain(|share| !share.is_empty());
+        let mut partition = Partition::over(&shares, random);
+        for guest in &mut partition.guests {
+            guest.close_up(random);
+        }
+        partition
+    }
+
     /// A sound partition of which one extent lies behind the lent memory, or
     /// all those of one guest that come after the ones in it.
     pub fn reaching_out(random: &mut Random) -> Partition {
@@ -74,8 +109,8 @@ impl Partition {
         Partition::over(&shares, random)
     }
 
-    /// A sound partition in which every guest has more extents than the lent
-    /// memory has pages.
+    /// A sound partition in which every guest has as many extents as the lent
+    /// memory has pages, or more.
     pub fn crowded(random: &mut Random) -> Partition {
         let guests = 1 + random.index_or_last(4);
         let counts: Vec<usize> = (0..guests).map(|_| most_or_fewer(random)).collect();
@@ -247,6 +282,25 @@ impl Partition {
 }
 
 impl Guest {
+    /// Every extent just behind the one before it; often a gap of a page or
+    /// two at one place.
+    fn close_up(&mut self, random: &mut Random) {
+        let gap = random.index(2 * self.extents.len());
+        let Some(first) = self.extents.first() else {
+            return;
+        };
+        let mut page = first.real_page;
+        for (place, extent) in self.extents.iter_mut().enumerate() {
+            if place > 0 && place == gap {
+                page += 1 + random.below(2);
+            }
+            // Never further up than it was.
+            page = page.min(extent.real_page);
+            extent.real_page = page;
+            page += extent.pages;
+        }
+    }
+
     fn pack(&self, bits: &mut BitWriter) {
         bits.field(self.cpus, 4);
         bits.field(self.extent_count, 3);
@@ -325,9 +379,9 @@ fn add_behind_memory(share: &mut Vec<Run>, random: &mut Random) {
     share.extend(runs_from(MEMORY_PAGES, count, random));
 }
 
-/// How many extents a crowded guest has: the most, or one or two fewer.
+/// How many extents a crowded guest has: the most, or up to three fewer.
 fn most_or_fewer(random: &mut Random) -> usize {
-    EXTENT_LIMIT as usize - random.index(3)
+    EXTENT_LIMIT as usize - random.index(4)
 }
 
 /// So many runs from a page on, often touching.
@@ -382,6 +436,10 @@ fn shared_out(mut runs: Vec<Run>, random: &mut Random) -> Vec<Vec<Run>> {
         if shares[share].len() < EXTENT_LIMIT as usize {
             shares[share].push(run);
         }
+    }
+    // Host pages that descend while real pages ascend.
+    if in_order && random.one_in(3) {
+        shares.iter_mut().for_each(|share| share.reverse());
     }
     shares
 }

@@ -28,10 +28,10 @@ impl Generator {
     }
 
     /// On a multiple of the size; it may not fit if the size is large.
-    fn ring_base(&mut self, guest: usize, size: u64) -> u64 {
-        let (start, extent) = self.some_extent(guest);
+    pub(super) fn ring_base(&mut self, guest: usize, size: u64) -> u64 {
+        let (start, room) = self.some_row(guest);
         let first = start.next_multiple_of(size);
-        let places = (start + extent).saturating_sub(first) / size;
+        let places = (start + room).saturating_sub(first) / size;
         match self.random.below(4) {
             0 => first + places.saturating_sub(1) * size,
             1 => first + self.random.below(places) * size,
@@ -271,14 +271,14 @@ impl Generator {
         }
     }
 
-    fn write_data(&mut self, guest: usize, data: u64) {
+    pub(super) fn write_data(&mut self, guest: usize, data: u64) {
         let words = self.random.pick(&[1, 1, 1, 2, 8]);
         let data = data - data % 8;
         let bytes: Vec<u8> = (0..8 * words).map(|_| self.random.next() as u8).collect();
         self.write(guest, data, &bytes);
     }
 
-    fn write_list(&mut self, who: (usize, usize), list: u64, count: u64) {
+    pub(super) fn write_list(&mut self, who: (usize, usize), list: u64, count: u64) {
         let mut entries = self.other_cpus(who, count.min(64));
         let spoilt = self.random.index_or_last(entries.len());
         let caller = who.1 as u16;
@@ -330,7 +330,7 @@ impl Generator {
         ])
     }
 
-    fn look_at_mondo(&mut self, guest: usize, list: u64, data: u64) {
+    pub(super) fn look_at_mondo(&mut self, guest: usize, list: u64, data: u64) {
         let (list, data) = (list - list % 8, data - data % 8);
         self.load(guest, list);
         if self.random.one_in(3) {

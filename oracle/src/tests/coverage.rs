@@ -70,9 +70,12 @@ const NOT_SHOWN: [&str; 1] = ["65"];
 /// them, so none behind the fourth extent is named, though a guest may have it.
 const LENT_PAGES: usize = 4;
 
+/// In how many extents a range of pages lies: any number of those that there are.
+const PIECES: Range<usize> = 1..LENT_PAGES + 1;
+
 /// The numbers of guests, cpus and the like that the accepted lines of a
 /// generated session name, besides guest and cpu of every call and head write.
-const NUMBERS: [(&str, &str, Range<usize>); 21] = [
+const NUMBERS: [(&str, &str, Range<usize>); 30] = [
     ("call 80/14", "queue", 0..4),
     ("call 80/15", "queue", 0..4),
     ("call 80/14", "extent", 0..LENT_PAGES),
@@ -81,6 +84,15 @@ const NUMBERS: [(&str, &str, Range<usize>); 21] = [
     ("call 80/31", "extent", 0..LENT_PAGES),
     ("call 80/32", "extent", 0..LENT_PAGES),
     ("call 80/42", "extent", 0..LENT_PAGES),
+    ("call 80/14", "pieces", 1..3),
+    ("call 80/20", "pieces", 1..3),
+    ("call 80/21", "pieces", 1..3),
+    ("call 80/31", "pieces", PIECES),
+    ("call 80/32", "pieces", PIECES),
+    ("call 80/42", "pieces", 1..3),
+    ("call 80/102", "pieces", 1..3),
+    ("call 80/20", "area", PIECES),
+    ("call 80/21", "area", PIECES),
     ("call 80/42", "target", 0..8),
     ("call 80/102", "extent", 0..LENT_PAGES),
     ("call 80/a6", "target", 0..8),
@@ -97,11 +109,16 @@ const NUMBERS: [(&str, &str, Range<usize>); 21] = [
 ];
 
 /// Those of the long session.
-const WRITTEN: [(&str, &str, Range<usize>); 15] = [
+const WRITTEN: [(&str, &str, Range<usize>); 20] = [
     ("call 80/14", "cpu", 0..8),
     ("call 80/14", "queue", 0..4),
     ("call 80/14", "extent", 0..LENT_PAGES),
     ("call 80/32", "extent", 0..LENT_PAGES),
+    ("call 80/14", "pieces", 1..3),
+    ("call 80/20", "pieces", 1..3),
+    ("call 80/31", "pieces", PIECES),
+    ("call 80/42", "pieces", 1..3),
+    ("call 80/102", "pieces", 1..3),
     ("call 80/42", "target", 1..8),
     ("call 80/102", "cpu", 0..8),
     ("call 80/103", "cpu", 0..8),

@@ -3,7 +3,7 @@
 //! cannot: they have no room for a fifth guest or an `enabled` of 2.
 
 use crate::model::Host;
-use crate::tables::{Extent, Group, Guest, Ring, Source, TsbDescriptor, EXTENT_LIMIT};
+use crate::tables::{Extent, Group, Guest, Ring, Source, TsbDescriptor, EXTENT_LIMIT, PAGE_SIZE};
 use std::collections::HashMap;
 
 const COUNTS: u64 = 0;
@@ -211,11 +211,16 @@ impl Draft {
             && (count..16).all(|i| self.source(i) == BLANK_SOURCE)
     }
 
+    /// Page by page, since extents have whole pages. No record asks for many.
     fn valid(&self, start: u64, length: u64) -> bool {
-        self.extents().iter().any(|e| {
-            let (from, end) = (e.real_start(), e.real_start() + e.size());
-            start >= from && start <= end && length <= end - start
-        })
+        let extents = self.extents();
+        let held = |page: u64| {
+            extents
+                .iter()
+                .any(|e| page.wrapping_sub(e.real_page) < e.pages)
+        };
+        let last = start.checked_add(length - 1);
+        last.is_some_and(|last| (start / PAGE_SIZE..=last / PAGE_SIZE).all(held))
     }
 
     fn cpus_right(&self, cpus: u64, host: &Host) -> bool {

@@ -255,26 +255,6 @@ load 0 1ff8 -> 0",
 }
 
 #[test]
-fn ranges_do_not_cross_touching_extents() {
-    // Real pages 0 and 1 lie on host pages 1 and 0.
-    check(
-        "image 11 240 0000000 0001 0001 0000001 0001 0000 0 -> 0
-call 0 0 ff 0 1 1 -> 0
-call 0 0 ff 0 200 1 -> 0
-call 0 0 80 31 0 4000 -> 2
-call 0 0 80 32 2000 2000 -> 0 2000 0 0 0
-call 0 0 80 14 3c 0 100 -> 2
-call 0 0 80 102 1e40 -> 2
-call 0 0 80 102 1e00 -> 0
-store 0 1ff8 1 -> 0
-store 0 2000 2 -> 0
-image 11 120 0000000 0002 0000 -> 0
-load 0 3ff8 -> 0 1 0 0 0
-load 0 0 -> 0 2 0 0 0",
-    );
-}
-
-#[test]
 fn statistics() {
     check_prepared(
         "call 0 0 80 102 80 -> 0

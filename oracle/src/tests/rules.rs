@@ -52,12 +52,12 @@ fn check_cpu(guest: &Guest, cpu: &Cpu) {
             .all(|pair| pair[0].is_some() || pair[1].is_none()));
     }
     let statistics = crate::tables::RealAddress(cpu.statistics);
-    assert!(cpu.statistics == 0 || guest.place(statistics, 512).is_some() && statistics.is_on(64));
+    assert!(cpu.statistics == 0 || guest.is_valid(statistics, 512) && statistics.is_on(64));
 }
 
 fn check_ring(guest: &Guest, ring: &Ring) {
     assert!([128, 256, 512, 1024, 2048, 4096, 8192, 16384].contains(&ring.size));
-    assert!(ring.base.is_on(ring.size) && guest.place(ring.base, ring.size).is_some());
+    assert!(ring.base.is_on(ring.size) && guest.is_valid(ring.base, ring.size));
     assert!(ring.head < ring.size && ring.head % 64 == 0);
     assert!(ring.tail < ring.size && ring.tail % 64 == 0);
 }
@@ -65,7 +65,7 @@ fn check_ring(guest: &Guest, ring: &Ring) {
 fn check_descriptor(guest: &Guest, descriptor: &TsbDescriptor) {
     let size = 16 * u64::from(descriptor.entries);
     assert!(descriptor.entries.is_power_of_two() && (13..=24).contains(&size.ilog2()));
-    assert!(descriptor.base.is_on(size) && guest.place(descriptor.base, size).is_some());
+    assert!(descriptor.base.is_on(size) && guest.is_valid(descriptor.base, size));
     assert_eq!(descriptor.page_mask & 0x2b, descriptor.page_mask);
     assert_eq!(
         descriptor.page_mask.trailing_zeros(),

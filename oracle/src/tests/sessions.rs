@@ -17,8 +17,8 @@ fn the_long_session_answers_as_written() {
 
 fn bench_session(kind: &str, lines: u64) -> Vec<(String, String)> {
     let mut text = Vec::new();
-    let cycle = bench::cycle(kind).expect("a kind that there is");
-    bench::write_session(cycle, lines, &mut text).expect("memory");
+    let kind = bench::kind(kind).expect("a kind that there is");
+    bench::write_session(&kind, lines, &mut text).expect("memory");
     let answers = answers(&text);
     let text = String::from_utf8(text).expect("text");
     assert_eq!(text.lines().count() as u64, lines);
@@ -27,7 +27,7 @@ fn bench_session(kind: &str, lines: u64) -> Vec<(String, String)> {
 
 #[test]
 fn every_raise_and_mondo_of_a_bench_session_is_delivered() {
-    for kind in ["mix", "raise", "mondo"] {
+    for kind in ["mix", "raise", "mondo", "seams"] {
         for (line, answer) in bench_session(kind, 20_000) {
             let slip = line.contains("a8 200 5") || line.contains("14 3c 40 2");
             assert!(slip || answer.starts_with('0'), "{line}: {answer}");
