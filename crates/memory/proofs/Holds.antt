@@ -8,7 +8,7 @@ use native.Mathlib.Numerals.{add-one}
 use lib.Dec.{leb, ltb}
 use lib.ListN.{length, getD, take, length-map}
 use lib.Seq.{slice, slice-cons, slice-empty}
-use borrow.Author.Tests.{le-leb, lt-leb, leb-true, ltb-true, lt-ltb, le-ltb}
+use borrow.Author.Tests.{le-leb, leb-true, ltb-true, lt-ltb, le-ltb}
 use Rattle.rules.specs.declared.Extent.{Extent}
 use Rattle.rules.specs.declared.Host.{Host}
 use Rattle.rules.specs.Kept.{blankExtent}

@@ -1,11 +1,9 @@
 -- Where the bytes of a range lie. A part of it in one extent is one run of host offsets, within the memory; what is seen there is
 -- what the memory holds there, and what is put there by real addresses is one run of stores.
-use mathlib.Core.Path.{_≡_, refl, sym, ap, _∙_}
-use mathlib.Core.Bool.{Bool, true, false, cond, true≢false, and-true}
+use mathlib.Core.Path.{_≡_, refl, sym, ap}
+use mathlib.Core.Bool.{Bool, true, false, cond, true≢false}
 use mathlib.Core.List.{List, [], _∷_}
-use Prim.Native.Nat.{ℕ, suc, _+_, _-_, _*_, _≤_, _<_, min}
-use lib.Dec.{ltb}
-use borrow.Author.Tests.{ltb-true, ltb-false}
+use Prim.Native.Nat.{ℕ, suc, _+_, _-_, _≤_, _<_, min}
 use native.Mathlib.Omega.{arith}
 use native.Mathlib.Nat.{add-zero, add-suc, suc-add}
 use lib.ListN.{length, set}
@@ -13,12 +11,10 @@ use lib.Seq.{sets}
 use Rattle.rules.specs.declared.Extent.{Extent}
 use Rattle.rules.specs.declared.Host.{Host}
 use Rattle.rules.specs.declared.Place.{Place}
-use Rattle.rules.specs.Limits.{pageSize}
 use Rattle.rules.specs.Real.{low, high, holds, hostOffset, located, byteAt, putBytes}
-use Rattle.memory.specs.declared.extents.Piece.{Piece}
 use Rattle.memory.specs.Cells.{cell, somewhere}
 use Rattle.memory.specs.Pieces.{partOf, pieceOf}
-use Rattle.memory.specs.Ready.{After, Apart, Long, Ready}
+use Rattle.memory.specs.Ready.{After, Apart, Long}
 use Rattle.memory.proofs.Holds.{holds-low, holds-high, holds-made, holds-not}
 pub use Rattle.memory.proofs.Reached.{valid-at, valid-part}
 

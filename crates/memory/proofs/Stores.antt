@@ -1,8 +1,8 @@
--- Runs of stores, as the loops make them: one more byte copied, zeroed, or read into an array.
+-- Runs of stores, as the loops make them: one more byte copied or zeroed; and as many bytes as an array has.
 use mathlib.Core.Path.{_≡_, refl, sym, ap, _∙_}
 use mathlib.Core.List.{List, [], _∷_, _++_, append-nil}
 use Prim.Native.Nat.{ℕ, zero, suc, _+_, _<_}
-use native.Mathlib.Nat.{add-zero, zero-add, le-of-lt}
+use native.Mathlib.Nat.{add-zero, le-of-lt}
 use native.Mathlib.Omega.{arith}
 use native.Mathlib.Numerals.{add-one}
 use lib.ListN.{length, getD, take, set, replicate, length-replicate, replicate-append-replicate}
@@ -28,25 +28,13 @@ fill-more m i j v =
     let q : set (sets m i (replicate j v)) (i + length (replicate j v)) v ≡ sets m i (replicate j v ++ (v ∷ [])) = sets-snoc (replicate j v) m i v in
     rw (← replicate-append-replicate j 1 v) (rw length-replicate at q)
 
--- bytes that are seen: how many, and one more at the end
+-- bytes that are seen: how many
 pub bytes-length : (f : ℕ → ℕ) (a n : ℕ) → length (bytesFrom f a n) ≡ n
 unfolding bytesFrom
 bytes-length f a zero = refl
 bytes-length f a (suc n) = ap suc (bytes-length f (suc a) n)
 
-bytes-snoc : (f : ℕ → ℕ) (a n : ℕ) → bytesFrom f a (suc n) ≡ bytesFrom f a n ++ (f (a + n) ∷ [])
-unfolding bytesFrom
-bytes-snoc f a zero = rw add-zero
-bytes-snoc f a (suc n) =
-    let e : a + suc n ≡ suc a + n = omega arith in
-    rw e (ap (λ (l : List ℕ). f a ∷ l) (bytes-snoc f (suc a) n))
-
--- bytes that are read into the front of z: one more, and as many as z has
-pub read-more : (f : ℕ → ℕ) (z : List ℕ) (a j : ℕ) → set (sets z 0 (bytesFrom f a j)) j (f (a + j)) ≡ sets z 0 (bytesFrom f a (j + 1))
-read-more f z a j =
-    let q : set (sets z 0 (bytesFrom f a j)) (0 + length (bytesFrom f a j)) (f (a + j)) ≡ sets z 0 (bytesFrom f a j ++ (f (a + j) ∷ [])) = sets-snoc (bytesFrom f a j) z 0 (f (a + j)) in
-    rw (add-one, bytes-snoc f a j) (simp (zero-add, bytes-length) at q)
-
+-- as many bytes as z has, read into the front of z
 stored-whole : (z l : List ℕ) → length l ≡ length z → sets z 0 l ≡ l
 stored-whole z l e =
     let k : 0 + length l ≡ length z = omega arith in

@@ -1,6 +1,6 @@
 -- A range walked from piece to piece: what each turn of a loop adds.
-use mathlib.Core.Path.{_≡_, refl, sym, ap, _∙_}
-use mathlib.Core.Bool.{Bool, true, false}
+use mathlib.Core.Path.{_≡_, sym, _∙_}
+use mathlib.Core.Bool.{true}
 use mathlib.Core.List.{List, [], _∷_, _++_}
 use Prim.Native.Nat.{ℕ, zero, suc, _+_, _-_, _^_, _≤_, _<_}
 use native.Mathlib.Omega.{arith}
@@ -8,7 +8,6 @@ use native.Mathlib.Nat.{add-zero, zero-add, suc-add}
 use lib.ListN.{length, take, drop, length-take, length-drop, getD, set, replicate, replicate-append-replicate, List·getD-append}
 use lib.Seq.{sets, sets-eq, take-add, ext-getD, getD-take, getD-drop}
 use Rattle.rules.specs.declared.Extent.{Extent}
-use Rattle.rules.specs.declared.Place.{Place}
 use Rattle.rules.specs.Real.{valid, byteAt, numberOf, bytesFrom, putBytes, apply}
 use Rattle.memory.specs.declared.extents.Piece.{Piece}
 use Rattle.memory.specs.Cells.{cell, one}
@@ -20,24 +19,24 @@ use Rattle.memory.proofs.Stores.{bytes-length}
 use Rattle.memory.proofs.Reached.{valid-at}
 use Rattle.memory.proofs.Writes.{put-append}
 
--- Bytes put piece by piece: i of them are put, from base on.
-module _ (es : List Extent) (m : List ℕ) (base i n : ℕ) (p : Piece) (q : p ≡ pieceOf es (base + i) (n - i)) where
-  -- a piece has a byte, no more than are left, and lies in the memory
-  pub part-some : valid es base n ≡ true → i < n → 0 < p .len
-  part-some v h = rw q (piece-some es (base + i) (n - i) (valid-at es base n i v h) (omega arith))
+-- A walk over the n bytes from base on, of which i are passed: p is the next piece.
+module _ (es : List Extent) (base i n : ℕ) (p : Piece) (q : p ≡ pieceOf es (base + i) (n - i)) where
+  -- it has a byte, no more than are left, and lies in the memory
+  pub walk-some : valid es base n ≡ true → i < n → 0 < p .len
+  walk-some v h = rw q (piece-some es (base + i) (n - i) (valid-at es base n i v h) (omega arith))
 
-  pub part-most : i < n → i + p .len ≤ n
-  part-most h =
+  pub walk-most : i < n → i + p .len ≤ n
+  walk-most h =
       let k : p .len ≤ n - i = rw q (piece-most es (base + i) (n - i)) in
       omega arith
 
-  pub part-fits : (len : ℕ) → Ready es len → p .at .0 + p .len ≤ len
-  part-fits len r = rw q (piece-room es (base + i) (n - i) len (r .long))
+  pub walk-fits : (len : ℕ) → Ready es len → p .at .0 + p .len ≤ len
+  walk-fits len r = rw q (piece-room es (base + i) (n - i) len (r .long))
 
-  -- the piece us of the bytes, behind the i that are put
-  pub part-put : (m₁ m₂ vs us : List ℕ) → Apart es → m₁ ≡ putBytes es m base vs → length vs ≡ i → length us ≡ p .len → m₂ ≡ sets m₁ (p .at .0) us
+  -- the bytes us put there, behind the i that were put
+  pub walk-put : (m m₁ m₂ vs us : List ℕ) → Apart es → m₁ ≡ putBytes es m base vs → length vs ≡ i → length us ≡ p .len → m₂ ≡ sets m₁ (p .at .0) us
       → m₂ ≡ putBytes es m base (vs ++ us)
-  part-put m₁ m₂ vs us s e l k w =
+  walk-put m m₁ m₂ vs us s e l k w =
       let put : putBytes es m₁ (base + i) us ≡ sets m₁ (p .at .0) us = rw q (piece-put es m₁ us (base + i) (n - i) s (rw (k, q) (omega arith))) in
       w ∙ sym put ∙ rw (e, ← l) (sym (put-append es vs us m base))
 
@@ -93,9 +92,9 @@ bytes-cut m h k l =
     go i j = bytes-at (cell m) h k i j ∙ sym (getD-take (h + k - h) (drop h m) i 0 (omega arith) ∙ getD-drop h m i 0)
 
 module _ (es : List Extent) (m z : List ℕ) (base i n : ℕ) (p : Piece) (q : p ≡ pieceOf es (base + i) (n - i)) (r : Ready es (length m)) where
-  pub part-read : (out out′ : List ℕ) → out ≡ sets z 0 (bytesFrom (byteAt es m) base i) → out′ ≡ sets out i (cut m (p .at .0) (p .len))
+  pub walk-read : (out out′ : List ℕ) → out ≡ sets z 0 (bytesFrom (byteAt es m) base i) → out′ ≡ sets out i (cut m (p .at .0) (p .len))
       → out′ ≡ sets z 0 (bytesFrom (byteAt es m) base (i + p .len))
-  part-read out out′ e w =
+  walk-read out out′ e w =
       let fits : p .at .0 + p .len ≤ length m = rw q (piece-room es (base + i) (n - i) (length m) (r .long)) in
       let seen : bytesFrom (byteAt es m) (base + i) (p .len) ≡ cut m (p .at .0) (p .len) =
       bytes-same (byteAt es m) (cell m) (base + i) (p .at .0) (p .len) (λ k l. rw q (byte-run es m (base + i) (n - i) k (r .apart) (rw q at l)))

@@ -3,7 +3,7 @@
 use mathlib.Core.Path.{_≡_, refl, sym, ap, _∙_}
 use mathlib.Core.Bool.{Bool, true, false, cond, true≢false, false≢true}
 use mathlib.Core.List.{List, [], _∷_}
-use Prim.Native.Nat.{ℕ, zero, suc, _+_, _-_, _*_, _/_, _%_, _≤_, _<_}
+use Prim.Native.Nat.{ℕ, zero, suc, _+_, _*_, _/_, _%_, _≤_, _<_}
 use native.Mathlib.Nat.{add-zero, div-add-mod', mul-comm, mul-assoc}
 use native.Mathlib.Omega.{arith}
 use lib.Dec.{eqb, leb}
@@ -19,9 +19,9 @@ use Rattle.rules.specs.declared.Refusal.{Refusal}
 use Rattle.rules.specs.declared.Refusal.the-variants.{EINVAL, EBADALIGN, ENORADDR}
 use Rattle.rules.specs.declared.Ring.{Ring}
 use Rattle.rules.specs.declared.Tables.{Tables}
-use Rattle.rules.specs.Limits.{pageSize, queueLimit}
-use Rattle.rules.specs.Kept.{blankExtent, guestAt, plantAt, cpuAt, queueAt, extentAt, present, extentsOf}
-use Rattle.rules.specs.Real.{low, high, holds, hostOffset, located, valid}
+use Rattle.rules.specs.Limits.{pageSize}
+use Rattle.rules.specs.Kept.{blankExtent, guestAt, extentAt, present, extentsOf}
+use Rattle.rules.specs.Real.{holds, hostOffset, located, valid}
 use Rattle.rules.specs.Queues.{newRing}
 use Rattle.rules.specs.Rulings.{Ruling, granted, accepts, _or-refuse_then_}
 use Rattle.rules.specs.Scan.{power-of-two_from_to_}

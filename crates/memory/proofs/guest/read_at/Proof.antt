@@ -7,7 +7,7 @@ use lib.ListN.{length}
 use lib.Seq.{sets}
 use Rattle.rules.specs.Real.{byteAt, bytesFrom}
 use Rattle.memory.specs.Ready.{present}
-use Rattle.memory.proofs.Walks.{part-some, part-most, part-fits, part-read, cut-length}
+use Rattle.memory.proofs.Walks.{walk-some, walk-most, walk-fits, walk-read, cut-length}
 use Rattle.memory.proofs.guest.read_at.Statement.{statement}
 use Rattle.memory.proofs.guest.read_at.Tie as tie
 
@@ -34,7 +34,7 @@ add-write : tie.Need-add-write Inv-loop μ-loop
 add-write c =
     let p = c .before .before in
     let s = p .before .before .before .before .before in
-    omega (arith, part-fits _ (s .args .mem .now) _ _ _ _ (p .piece-at .ensures .0) _ (s .pre .1 .0))
+    omega (arith, walk-fits _ _ _ _ _ (p .piece-at .ensures .0) _ (s .pre .1 .0))
 
 sub-write : tie.Need-sub-write Inv-loop μ-loop
 sub-write c = omega arith
@@ -46,38 +46,38 @@ part-write-end : tie.Need-part-write-end Inv-loop μ-loop
 part-write-end c =
     let p = c .before .before in
     let s = p .before .before .before .before .before in
-    omega (arith, part-fits _ (s .args .mem .now) _ _ _ _ (p .piece-at .ensures .0) _ (s .pre .1 .0))
+    omega (arith, walk-fits _ _ _ _ _ (p .piece-at .ensures .0) _ (s .pre .1 .0))
 
 write-requires : tie.Need-write-requires Inv-loop μ-loop
 write-requires c κs =
     let p = c .before .before .before in
     let l = p .before .before in
     let s = l .before .before .before in
-    let fits = part-fits _ (s .args .mem .now) (s .args .real .0) (l .loop .i) (s .args .k) _ (p .piece-at .ensures .0) _ (s .pre .1 .0) in
-    omega (arith, cut-length (s .args .mem .now) (p .piece-at .result .at .0) (p .piece-at .result .len) fits, part-most _ (s .args .mem .now) (s .args .real .0) (l .loop .i) (s .args .k) _ (p .piece-at .ensures .0) (omega arith), l .loop .inv .1)
+    let fits = walk-fits _ (s .args .real .0) (l .loop .i) (s .args .k) _ (p .piece-at .ensures .0) _ (s .pre .1 .0) in
+    omega (arith, cut-length (s .args .mem .now) (p .piece-at .result .at .0) (p .piece-at .result .len) fits, walk-most _ (s .args .real .0) (l .loop .i) (s .args .k) _ (p .piece-at .ensures .0) (omega arith), l .loop .inv .1)
 
 add-i : tie.Need-add-i Inv-loop μ-loop
 add-i c =
     let p = c .before .before .before .before .before .before in
     let l = p .before .before in
-    omega (arith, part-most _ (l .loop .out) _ _ _ _ (p .piece-at .ensures .0) (omega arith))
+    omega (arith, walk-most _ _ _ _ _ (p .piece-at .ensures .0) (omega arith))
 
 loop-less : tie.Need-loop-less Inv-loop μ-loop
 loop-less c =
     let p = c .before .before .before .before .before .before in
     let l = p .before .before in
     let s = l .before .before .before in
-    omega (arith, part-some _ (l .loop .out) _ _ _ _ (p .piece-at .ensures .0) (s .pre .1 .1) (omega arith))
+    omega (arith, walk-some _ _ _ _ _ (p .piece-at .ensures .0) (s .pre .1 .1) (omega arith))
 
 loop-again : tie.Need-loop-again Inv-loop μ-loop
 loop-again c =
     let p = c .before .before .before .before .before .before in
     let l = p .before .before in
     let s = l .before .before .before in (
-      part-most _ (l .loop .out) _ _ _ _ (p .piece-at .ensures .0) (omega arith),
+      walk-most _ _ _ _ _ (p .piece-at .ensures .0) (omega arith),
       c .before .before .write .kept .0 ∙ l .loop .inv .1,
       omega (arith, p .piece-at .ensures .1),
-      part-read _ _ _ _ _ _ _ (p .piece-at .ensures .0) (s .pre .1 .0) (l .loop .out) _ (l .loop .inv .3) (c .before .before .write .ensures),
+      walk-read _ _ _ _ _ _ _ (p .piece-at .ensures .0) (s .pre .1 .0) (l .loop .out) _ (l .loop .inv .3) (c .before .before .write .ensures),
     )
 
 same-length : tie.Need-same-length Inv-loop μ-loop

@@ -7,7 +7,7 @@ use lib.ListN.{length, take}
 use lib.Seq.{length-take-le, take-length}
 use Rattle.rules.specs.Real.{putBytes}
 use Rattle.memory.specs.Ready.{present}
-use Rattle.memory.proofs.Walks.{part-some, part-most, part-fits, part-put, cut-length, cut-parts, put-all}
+use Rattle.memory.proofs.Walks.{walk-some, walk-most, walk-fits, walk-put, cut-length, cut-parts, put-all}
 use Rattle.memory.proofs.guest.write_at.Statement.{statement}
 use Rattle.memory.proofs.guest.write_at.Tie as tie
 
@@ -34,7 +34,7 @@ add-write : tie.Need-add-write Inv-loop μ-loop
 add-write c =
     let p = c .before .before in
     let l = p .before .before in
-    omega (arith, part-most _ (l .loop .mem) _ _ _ _ (p .piece-at .ensures .0) (omega arith))
+    omega (arith, walk-most _ _ _ _ _ (p .piece-at .ensures .0) (omega arith))
 
 sub-write : tie.Need-sub-write Inv-loop μ-loop
 sub-write c = omega arith
@@ -46,36 +46,36 @@ part-write-end : tie.Need-part-write-end Inv-loop μ-loop
 part-write-end c =
     let p = c .before .before in
     let l = p .before .before in
-    omega (arith, part-most _ (l .loop .mem) _ _ _ _ (p .piece-at .ensures .0) (omega arith))
+    omega (arith, walk-most _ _ _ _ _ (p .piece-at .ensures .0) (omega arith))
 
 write-requires : tie.Need-write-requires Inv-loop μ-loop
 write-requires c κs =
     let p = c .before .before .before in
     let l = p .before .before in
     let s = l .before .before .before in
-    let most = part-most _ (l .loop .mem) _ _ _ _ (p .piece-at .ensures .0) (omega arith) in
-    omega (arith, part-fits _ (l .loop .mem) _ _ _ _ (p .piece-at .ensures .0) _ (s .pre .1 .0), cut-length (s .args .src .now) (l .loop .i) (p .piece-at .result .len) most, l .loop .inv .1)
+    let most = walk-most _ _ _ _ _ (p .piece-at .ensures .0) (omega arith) in
+    omega (arith, walk-fits _ _ _ _ _ (p .piece-at .ensures .0) _ (s .pre .1 .0), cut-length (s .args .src .now) (l .loop .i) (p .piece-at .result .len) most, l .loop .inv .1)
 
 add-i : tie.Need-add-i Inv-loop μ-loop
 add-i c =
     let p = c .before .before .before .before .before .before in
     let l = p .before .before in
-    omega (arith, part-most _ (l .loop .mem) _ _ _ _ (p .piece-at .ensures .0) (omega arith))
+    omega (arith, walk-most _ _ _ _ _ (p .piece-at .ensures .0) (omega arith))
 
 loop-less : tie.Need-loop-less Inv-loop μ-loop
 loop-less c =
     let p = c .before .before .before .before .before .before in
     let l = p .before .before in
     let s = l .before .before .before in
-    omega (arith, part-some _ (l .loop .mem) _ _ _ _ (p .piece-at .ensures .0) (s .pre .1 .1) (omega arith))
+    omega (arith, walk-some _ _ _ _ _ (p .piece-at .ensures .0) (s .pre .1 .1) (omega arith))
 
 loop-again : tie.Need-loop-again Inv-loop μ-loop
 loop-again c =
     let p = c .before .before .before .before .before .before in
     let l = p .before .before in
     let s = l .before .before .before in
-    let most = part-most _ (l .loop .mem) _ _ _ _ (p .piece-at .ensures .0) (omega arith) in
-    (most, c .before .before .write .kept .0 ∙ l .loop .inv .1, omega (arith, p .piece-at .ensures .1), rw (← cut-parts (s .args .src .now) (l .loop .i) (p .piece-at .result .len)) (part-put _ (s .args .mem .now) _ _ _ _ (p .piece-at .ensures .0) (l .loop .mem) _ _ _ (s .pre .1 .0 .apart) (l .loop .inv .3) (length-take-le _ _ (omega arith)) (cut-length _ _ _ most) (c .before .before .write .ensures)))
+    let most = walk-most _ _ _ _ _ (p .piece-at .ensures .0) (omega arith) in
+    (most, c .before .before .write .kept .0 ∙ l .loop .inv .1, omega (arith, p .piece-at .ensures .1), rw (← cut-parts (s .args .src .now) (l .loop .i) (p .piece-at .result .len)) (walk-put _ _ _ _ _ (p .piece-at .ensures .0) (s .args .mem .now) (l .loop .mem) _ _ _ (s .pre .1 .0 .apart) (l .loop .inv .3) (length-take-le _ _ (omega arith)) (cut-length _ _ _ most) (c .before .before .write .ensures)))
 
 same-length : tie.Need-same-length Inv-loop μ-loop
 same-length c = c .before .loop .inv .1

@@ -6,7 +6,7 @@ use Prim.Native.Nat.{_+_, _-_, _^_, _≤_, _<_}
 use lib.ListN.{length, replicate, length-replicate}
 use Rattle.rules.specs.Real.{putBytes}
 use Rattle.memory.specs.Ready.{present}
-use Rattle.memory.proofs.Walks.{part-some, part-most, part-fits, part-put, zeros-parts, put-all}
+use Rattle.memory.proofs.Walks.{walk-some, walk-most, walk-fits, walk-put, zeros-parts, put-all}
 use Rattle.memory.proofs.guest.zero_at.Statement.{statement}
 use Rattle.memory.proofs.guest.zero_at.Tie as tie
 
@@ -34,20 +34,20 @@ zero-requires c κs =
     let p = c .before .before in
     let l = p .before .before in
     let s = l .before .before in
-    omega (arith, part-fits _ (l .loop .mem) _ _ _ _ (p .piece-at .ensures .0) _ (s .pre .1 .0), l .loop .inv .1)
+    omega (arith, walk-fits _ _ _ _ _ (p .piece-at .ensures .0) _ (s .pre .1 .0), l .loop .inv .1)
 
 add-i : tie.Need-add-i Inv-loop μ-loop
 add-i c =
     let p = c .before .before .before .before .before in
     let l = p .before .before in
-    omega (arith, part-most _ (l .loop .mem) _ _ _ _ (p .piece-at .ensures .0) (omega arith))
+    omega (arith, walk-most _ _ _ _ _ (p .piece-at .ensures .0) (omega arith))
 
 loop-less : tie.Need-loop-less Inv-loop μ-loop
 loop-less c =
     let p = c .before .before .before .before .before in
     let l = p .before .before in
     let s = l .before .before in
-    omega (arith, part-some _ (l .loop .mem) _ _ _ _ (p .piece-at .ensures .0) (s .pre .1 .1) (omega arith))
+    omega (arith, walk-some _ _ _ _ _ (p .piece-at .ensures .0) (s .pre .1 .1) (omega arith))
 
 loop-again : tie.Need-loop-again Inv-loop μ-loop
 loop-again c =
@@ -55,11 +55,11 @@ loop-again c =
     let l = p .before .before in
     let s = l .before .before in
     let k = p .piece-at .result .len in (
-      part-most _ (l .loop .mem) _ _ _ _ (p .piece-at .ensures .0) (omega arith),
+      walk-most _ _ _ _ _ (p .piece-at .ensures .0) (omega arith),
       c .before .before .zero .kept .0 ∙ l .loop .inv .1,
       omega (arith, p .piece-at .ensures .1),
       rw (← zeros-parts (l .loop .i) k)
-          (part-put _ (s .args .mem .now) _ _ _ _ (p .piece-at .ensures .0) (l .loop .mem) _ _ _ (s .pre .1 .0 .apart) (l .loop .inv .3) (length-replicate _ _) (length-replicate _ _) (c .before .before .zero .ensures)),
+          (walk-put _ _ _ _ _ (p .piece-at .ensures .0) (s .args .mem .now) (l .loop .mem) _ _ _ (s .pre .1 .0 .apart) (l .loop .inv .3) (length-replicate _ _) (length-replicate _ _) (c .before .before .zero .ensures)),
     )
 
 same-length : tie.Need-same-length Inv-loop μ-loop
