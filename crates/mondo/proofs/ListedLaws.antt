@@ -1,25 +1,23 @@
 -- 0x42 once its list is read: the listed cpus that the code keeps are those of the rule, and each return is the rule's case.
 use mathlib.Core.Path.{_≡_, refl, sym, _∙_}
 use mathlib.Core.Bool.{Bool, true, false, _&&_, not}
-use mathlib.Core.List.{List, [], _∷_, _++_}
-use mathlib.Core.Logic.{⊎-elim}
-use Prim.Native.Nat.{ℕ, zero, suc, _+_, _*_, _%_, _≤_, _<_}
-use native.Mathlib.Nat.{eq-or-lt-of-le, add-zero}
-use native.Mathlib.Omega.{arith}
-use lib.Dec.{leb, ltb, eqb}
-use lib.ListN.{length, getD, take, length-append, List·getD-append}
-use lib.Seq.{getD-take, getD-append-add}
-use borrow.Author.Tests.{ltb-true, leb-true}
+use mathlib.Core.List.{List}
+use Prim.Native.Nat.{ℕ, _*_, _%_, _≤_, _<_}
+use lib.Dec.{leb, eqb}
+use lib.ListN.{getD, take}
+use lib.Seq.{getD-take}
+use borrow.Author.Tests.{leb-true, not-true}
 use Rattle.rules.specs.declared.Extents.{Extents}
 use Rattle.rules.specs.declared.Plant.{Plant}
 use Rattle.rules.specs.declared.Refusal.{Refusal}
 use Rattle.rules.specs.declared.Refusal.the-variants.{EWOULDBLOCK}
 use Rattle.rules.specs.declared.Answer.the-variants.{Done, Refused}
-use Rattle.rules.specs.Scan.{someBelow, allBelow}
+use Rattle.rules.specs.Scan.{someBelow}
 use Rattle.rules.specs.Real.{valid, byteAt, sightOf, bytesFrom}
 use Rattle.rules.specs.Rulings.{Ruling, Outcome, done}
-use Rattle.rules.specs.Mondo.{listedCpu, listedCpus, sendAll, cpu-mondo-send}
-use Rattle.rules.proofs.Scan.{some-same, all-same, all-at}
+use Rattle.rules.specs.Mondo.{listedCpu, listedCpus, isCaller, isStranger, sendAll, cpu-mondo-send}
+use Rattle.rules.proofs.Listed.{listed-at}
+use Rattle.rules.proofs.Scan.{none-at, some-same}
 use Rattle.rules.proofs.Tests.{and-left, and-right}
 use Rattle.memory.specs.Ready.{present}
 use Rattle.records.specs.declared.Verdict.{Verdict}
@@ -37,51 +35,34 @@ use Rattle.plants.proofs.OutcomeLaws.{quiet-refused}
 
 -- the cpus of a list, one by one
 module _ (byte : ℕ → ℕ) (list : ℕ) where
-  cpus-length : (n : ℕ) → length (listedCpus byte list n) ≡ n
-  unfolding listedCpus
-  cpus-length zero = refl
-  cpus-length (suc n) = rw (length-append, cpus-length n) (omega arith)
-
-  cpus-at : (n i : ℕ) → i < n → getD (listedCpus byte list n) i 0 ≡ listedCpu byte list i
-  unfolding listedCpus
-  cpus-at zero i h = absurd (omega arith)
-  cpus-at (suc n) i h =
-      let k : i ≤ n = omega arith in
-      ⊎-elim
-      (λ e.
-      let q : getD (listedCpus byte list n ++ (listedCpu byte list n ∷ [])) (length (listedCpus byte list n) + 0) 0 ≡ listedCpu byte list n = getD-append-add (listedCpus byte list n) (listedCpu byte list n ∷ []) 0 0 in
-      rw e (simp (add-zero, cpus-length) at q))
-      (λ l. List·getD-append (listedCpus byte list n) _ 0 i (rw cpus-length l) ∙ cpus-at n i l)
-      (eq-or-lt-of-le k)
-
   -- the listed cpus cs that were read
   module _ (cs : List ℕ) (count : ℕ) (e : take count cs ≡ listedCpus byte list count) where
     read-at : (i : ℕ) → i < count → listedCpu byte list i ≡ getD cs i 0
-    read-at i h = sym (sym (getD-take count cs i 0 h) ∙ rw e (cpus-at count i h))
+    read-at i h = sym (sym (getD-take count cs i 0 h) ∙ rw e (listed-at byte list count i h))
 
     cpus-same : (cpu cpus : ℕ) (rest : Ruling Outcome) → mondoCpus (listedCpu byte list) count cpu cpus rest ≡ mondoCpus (λ i. getD cs i 0) count cpu cpus rest
     unfolding mondoCpus
     cpus-same cpu cpus rest =
         rw (
-          some-same (λ i. eqb (listedCpu byte list i) cpu) (λ i. eqb (getD cs i 0) cpu) count (λ i h. rw (read-at i h)),
-          all-same (λ i. ltb (listedCpu byte list i) cpus) (λ i. ltb (getD cs i 0) cpus) count (λ i h. rw (read-at i h)),
+          some-same (λ i. isCaller cpu (listedCpu byte list i)) (λ i. isCaller cpu (getD cs i 0)) count (λ i h. rw (read-at i h)),
+          some-same (λ i. isStranger cpus (listedCpu byte list i)) (λ i. isStranger cpus (getD cs i 0)) count (λ i h. rw (read-at i h)),
         )
 
--- each listed cpu is a cpuid if the list is right
+-- no entry is a stranger if the list is right
 module _ (cs : List ℕ) (count cpu : ℕ) (plant : Plant) (t : Verdict) (f : (rest : Ruling Outcome) → mondoCpus (λ i. getD cs i 0) count cpu (plant .cpus) rest ≡ judged t rest) (e : t ≡ Right) where
   told : verdictOf (mondoCpus (λ i. getD cs i 0) count cpu (plant .cpus) (done plant)) ≡ Right
   told = judged-told (mondoCpus (λ i. getD cs i 0) count cpu (plant .cpus)) t f e _
 
-  others-told : not (someBelow count (λ i. eqb (getD cs i 0) cpu)) ≡ true
+  others-told : not (someBelow count (λ i. isCaller cpu (getD cs i 0))) ≡ true
   unfolding mondoCpus
   others-told = told-then _ _ _ told
 
-  below-told : allBelow count (λ i. ltb (getD cs i 0) (plant .cpus)) ≡ true
+  known-told : not (someBelow count (λ i. isStranger (plant .cpus) (getD cs i 0))) ≡ true
   unfolding mondoCpus
-  below-told = told-then _ _ _ (rw others-told at told)
+  known-told = told-then _ _ _ (rw others-told at told)
 
-  pub listed-below : (i : ℕ) → i < count → getD cs i 0 < plant .cpus
-  listed-below i h = ltb-true _ _ (all-at _ count i below-told h)
+  pub none-strange : (i : ℕ) → i < count → isStranger (plant .cpus) (getD cs i 0) ≡ false
+  none-strange i h = none-at _ count i (not-true _ known-told) h
 
 -- the returns once the list is read
 module _ (extents : Extents) (plant : Plant) (m cs : List ℕ) (cpu count list at : ℕ) (e : take count cs ≡ listedCpus (byteAt (present extents) m) list count)

@@ -5,7 +5,7 @@ use mathlib.Core.List.{List, [], _∷_, append-nil}
 use Prim.Native.Nat.{ℕ, _+_, _*_, _%_, _≤_, _<_}
 use native.Mathlib.Numerals.{add-one}
 use native.Mathlib.Omega.{arith}
-use lib.Dec.{leb, ltb, eqb}
+use lib.Dec.{leb}
 use lib.ListN.{length, set, take}
 use lib.Seq.{take-suc-set}
 use borrow.Author.Tests.{le-leb, lt-leb, eq-eqb, ne-eqb, not-true, not-false}
@@ -14,11 +14,11 @@ use Rattle.rules.specs.declared.Plant.{Plant}
 use Rattle.rules.specs.declared.QueueRecord.{QueueRecord}
 use Rattle.rules.specs.declared.Refusal.the-variants.{EINVAL, EBADALIGN, ENORADDR, ENOCPU}
 use Rattle.rules.specs.Kept.{cpuAt, queueAt, withQueue}
-use Rattle.rules.specs.Scan.{someBelow, allBelow}
+use Rattle.rules.specs.Scan.{someBelow}
 use Rattle.rules.specs.Real.{apply}
 use Rattle.rules.specs.Rulings.{Ruling, Outcome}
 use Rattle.rules.specs.Queues.{putIn, put}
-use Rattle.rules.specs.Mondo.{listedCpu, listedCpus, sendOne}
+use Rattle.rules.specs.Mondo.{listedCpu, listedCpus, passedOver, isCaller, isStranger, sendOne}
 use Rattle.memory.specs.Cells.{one}
 use Rattle.memory.specs.Ready.{present}
 use Rattle.memory.proofs.Writes.{apply-append}
@@ -74,19 +74,19 @@ unfolding listedCpus
 read-more byte list i v cs e h p = rw (add-one, take-suc-set cs i v h, e, p)
 
 -- what is asked of the listed cpus
-module _ (listed : ℕ → ℕ) (count cpu cpus : ℕ) (t : Bool) (p : t ≡ someBelow count (λ i. eqb (listed i) cpu)) (rest : Ruling Outcome) where
+module _ (listed : ℕ → ℕ) (count cpu cpus : ℕ) (t : Bool) (p : t ≡ someBelow count (λ i. isCaller cpu (listed i))) (rest : Ruling Outcome) where
   pub cpus-caller : t ≡ true → mondoCpus listed count cpu cpus rest ≡ judged (Told EINVAL) rest
   unfolding mondoCpus judged
   cpus-caller h = rw (← p, h)
 
-  module _ (h : t ≡ false) (s : Bool) (q : s ≡ allBelow count (λ i. ltb (listed i) cpus)) where
-    pub cpus-stranger : not s ≡ true → mondoCpus listed count cpu cpus rest ≡ judged (Told ENOCPU) rest
+  module _ (h : t ≡ false) (s : Bool) (q : s ≡ someBelow count (λ i. isStranger cpus (listed i))) where
+    pub cpus-stranger : s ≡ true → mondoCpus listed count cpu cpus rest ≡ judged (Told ENOCPU) rest
     unfolding mondoCpus judged
-    cpus-stranger e = rw (← p, h, ← q, not-true s e)
+    cpus-stranger e = rw (← p, h, ← q, e)
 
-    pub cpus-right : not s ≡ false → mondoCpus listed count cpu cpus rest ≡ judged Right rest
+    pub cpus-right : s ≡ false → mondoCpus listed count cpu cpus rest ≡ judged Right rest
     unfolding mondoCpus judged
-    cpus-right e = rw (← p, h, ← q, not-false s e)
+    cpus-right e = rw (← p, h, ← q, e)
 
 -- one ring: the packet is put, and the list marked if it was
 module _ (extents : Extents) (held : QueueRecord) (m packet : List ℕ) (mark : ℕ) (r : Put) (m₁ : List ℕ) (f : PutsIn extents (putIn held packet) m r m₁) where
@@ -98,9 +98,15 @@ module _ (extents : Extents) (held : QueueRecord) (m packet : List ℕ) (mark : 
   unfolding sendIn
   one-sent m₂ h w = record { held = f .held; room = f .room; memory = w ∙ rw (f .memory, ← f .room, h, apply-append) }
 
+-- an entry that is passed over
+pub one-passed : (extents : Extents) (plant : Plant) (cpu : ℕ) (packet : List ℕ) (mark : ℕ) (m : List ℕ) → passedOver cpu ≡ true
+    → Sends extents (sendOne plant cpu packet mark) m (record { plant = plant; all = true }) m
+unfolding sendOne apply
+one-passed extents plant cpu packet mark m e = rw e (record { plant = refl; all = refl; memory = refl })
+
 -- one cpu: the ring's record, put back
-pub one-plant : (plant : Plant) (cpu : ℕ) (packet : List ℕ) (mark : ℕ) (extents : Extents) (m : List ℕ) (r : Put) (m′ : List ℕ)
+pub one-plant : (plant : Plant) (cpu : ℕ) → passedOver cpu ≡ false → (packet : List ℕ) (mark : ℕ) (extents : Extents) (m : List ℕ) (r : Put) (m′ : List ℕ)
     → PutsIn extents (sendIn (queueAt (cpuAt plant cpu) 0) packet mark) m r m′
     → Sends extents (sendOne plant cpu packet mark) m (record { plant = withQueue plant cpu 0 (r .held); all = r .room }) m′
 unfolding sendIn sendOne put
-one-plant plant cpu packet mark extents m r m′ f = record { plant = ap (withQueue plant cpu 0) (f .held); all = f .room; memory = f .memory }
+one-plant plant cpu e packet mark extents m r m′ f = rw e (record { plant = ap (withQueue plant cpu 0) (f .held); all = f .room; memory = f .memory })

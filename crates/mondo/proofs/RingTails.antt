@@ -17,7 +17,7 @@ use Rattle.rules.specs.declared.Ring.{Ring}
 use Rattle.rules.specs.Kept.{blankQueue, hollowCpu, cpuAt, queueAt, cpuWithQueue, withQueue, withTail}
 use Rattle.rules.specs.Real.{valid}
 use Rattle.rules.specs.Queues.{hasRoom, putIn}
-use Rattle.rules.specs.Mondo.{sendOne}
+use Rattle.rules.specs.Mondo.{passedOver, sendOne}
 use Rattle.memory.specs.Ready.{present}
 use Rattle.records.specs.Sound.{RecordSound}
 use Rattle.plants.specs.declared.rings.Put.{Put}
@@ -101,13 +101,13 @@ module _ (extents : Extents) (plant : Plant) (tails : List ℕ) (c : ℕ) (h : c
   pub now-sound : RecordSound (valid (present extents)) (queueAt (cpuAt (withTails plant tails) c) 0) → HeldSound extents now
   now-sound s = subst (RecordSound (valid (present extents))) (ring-there plant tails c h ∙ sym e) s
 
-  pub tail-sent : (packet : List ℕ) (mark : ℕ) (m : List ℕ) (r : Put) (m′ : List ℕ) (t : ℕ) → c < length tails → PutsIn extents (sendIn now packet mark) m r m′ → t ≡ tailOf (r .held)
+  pub tail-sent : passedOver c ≡ false → (packet : List ℕ) (mark : ℕ) (m : List ℕ) (r : Put) (m′ : List ℕ) (t : ℕ) → c < length tails → PutsIn extents (sendIn now packet mark) m r m′ → t ≡ tailOf (r .held)
       → Sends extents (sendOne (withTails plant tails) c packet mark) m (record { plant = withTails plant (set tails c t); all = r .room }) m′
   unfolding sendIn
-  tail-sent packet mark m r m′ t k f v =
+  tail-sent o packet mark m r m′ t k f v =
       let moved : r .held ≡ atTail (queueAt (cpuAt plant c) 0) t =
       rw v (rw (f .held, e) (put-moves (queueAt (cpuAt plant c) 0) (getD tails c 0) packet)) in
-      rw (ring-stored plant tails c h t k, ← moved) (one-plant (withTails plant tails) c packet mark extents m r m′ (rw (ring-there plant tails c h, ← e) f))
+      rw (ring-stored plant tails c h t k, ← moved) (one-plant (withTails plant tails) c o packet mark extents m r m′ (rw (ring-there plant tails c h, ← e) f))
 
 -- the loop that reads the tails: after i turns those of the first i rings
 abbrev pub Read : Plant → List ℕ → ℕ → Type 0

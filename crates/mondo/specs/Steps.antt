@@ -3,17 +3,17 @@ use mathlib.Core.Path.{_≡_}
 use mathlib.Core.Bool.{Bool, _&&_, not}
 use mathlib.Core.List.{List, _++_}
 use Prim.Native.Nat.{ℕ, _*_, _%_}
-use lib.Dec.{leb, ltb, eqb}
+use lib.Dec.{leb, eqb}
 use Rattle.rules.specs.declared.Answer.{Answer}
 use Rattle.rules.specs.declared.Extents.{Extents}
 use Rattle.rules.specs.declared.Plant.{Plant}
 use Rattle.rules.specs.declared.QueueRecord.{QueueRecord}
 use Rattle.rules.specs.declared.Refusal.the-variants.{EINVAL, EBADALIGN, ENORADDR, ENOCPU}
-use Rattle.rules.specs.Scan.{someBelow, allBelow}
+use Rattle.rules.specs.Scan.{someBelow}
 use Rattle.rules.specs.Real.{Sight, bytesFrom, apply}
 use Rattle.rules.specs.Rulings.{Ruling, granted, Outcome, _or-refuse_then_}
 use Rattle.rules.specs.Queues.{PutIn, putIn}
-use Rattle.rules.specs.Mondo.{listedCpu, listedCpus, Sent, marked, sendAll, sentAs}
+use Rattle.rules.specs.Mondo.{listedCpu, listedCpus, isCaller, isStranger, Sent, marked, sendAll, sentAs}
 use Rattle.memory.specs.Ready.{present}
 use Rattle.plants.specs.declared.change.Change.{Change}
 use Rattle.plants.specs.declared.change.Done.{Done}
@@ -30,8 +30,8 @@ mondoRanges valid count list dataAt rest =
 -- what is asked of the listed cpus
 unfoldable pub mondoCpus : (ℕ → ℕ) → ℕ → ℕ → ℕ → Ruling Outcome → Ruling Outcome
 mondoCpus listed count cpu cpus rest =
-    not (someBelow count (λ i. eqb (listed i) cpu)) or-refuse EINVAL then
-    allBelow count (λ i. ltb (listed i) cpus) or-refuse ENOCPU then
+    not (someBelow count (λ i. isCaller cpu (listed i))) or-refuse EINVAL then
+    not (someBelow count (λ i. isStranger cpus (listed i))) or-refuse ENOCPU then
     rest
 
 -- what follows the questions before the list is read

@@ -15,15 +15,14 @@ use rules::QueueRecord;
 use rules::Real;
 use rules::Refusal;
 ghost use mathlib.Core.Path.{_≡_};
-ghost use mathlib.Core.Bool.{true};
+ghost use mathlib.Core.Bool.{true, false};
 ghost use Prim.Native.Nat.{ℕ, _*_, _<_, _≤_};
-ghost use lib.Dec.{eqb, ltb};
 ghost use lib.ListN.{length, getD, take};
 ghost use Rattle.rules.specs.Limits.{cpuLimit, extentLimit};
-ghost use Rattle.rules.specs.Scan.{someBelow, allBelow};
+ghost use Rattle.rules.specs.Scan.{someBelow};
 ghost use Rattle.rules.specs.Real.{valid, byteAt, sightOf};
 ghost use Rattle.rules.specs.Rulings.{Ruling, Outcome};
-ghost use Rattle.rules.specs.Mondo.{listedCpus, sendAll, cpu-mondo-send};
+ghost use Rattle.rules.specs.Mondo.{listedCpus, passedOver, isCaller, isStranger, sendAll, cpu-mondo-send};
 ghost use Rattle.memory.specs.Ready.{present, Ready};
 ghost use Rattle.records.specs.Sound.{Sound};
 ghost use Rattle.plants.specs.Changes.{withTails};
@@ -84,21 +83,28 @@ fn read_list(extents: Extents, mem: &[u8], list: u64, count: usize) -> [u16; MON
     cpus
 }
 
-// Whether a listed cpu is that cpu.
-fn is_cpu(listed: u16, cpu: usize) -> bool
-    ensures { λ r. ⌜ r ≡ eqb listed cpu ⌝ }
+// Whether an entry of a list is passed over.
+fn passed_over(listed: u16) -> bool
+    ensures { λ r. ⌜ r ≡ passedOver listed ⌝ }
 {
-    (listed as usize) == cpu
+    listed == 0xffff
+}
+
+// Whether an entry is the caller.
+fn is_caller(listed: u16, cpu: usize) -> bool
+    ensures { λ r. ⌜ r ≡ isCaller cpu listed ⌝ }
+{
+    !passed_over(listed) & ((listed as usize) == cpu)
 }
 
 // Whether a list names the caller.
 fn names_caller(cpus: &[u16; MONDOS], count: usize, cpu: usize) -> bool
     requires { ⌜ count ≤ 64 ⌝ }
-    ensures { λ r. ⌜ r ≡ someBelow count (λ i. eqb (getD (now (cpus .entry)) i 0) cpu) ⌝ }
+    ensures { λ r. ⌜ r ≡ someBelow count (λ i. isCaller cpu (getD (now (cpus .entry)) i 0)) ⌝ }
 {
     let mut i = 0;
     while i < count {
-        if is_cpu(cpus[i], cpu) {
+        if is_caller(cpus[i], cpu) {
             return true;
         }
         i += 1;
@@ -106,26 +112,26 @@ fn names_caller(cpus: &[u16; MONDOS], count: usize, cpu: usize) -> bool
     false
 }
 
-// Whether a listed cpu is below the number of cpus.
-fn is_below(listed: u16, limit: u8) -> bool
-    ensures { λ r. ⌜ r ≡ ltb listed limit ⌝ }
+// Whether an entry is no cpuid of a guest with so many cpus.
+fn is_stranger(listed: u16, limit: u8) -> bool
+    ensures { λ r. ⌜ r ≡ isStranger limit listed ⌝ }
 {
-    listed < (limit as u16)
+    !passed_over(listed) & ((limit as u16) <= listed)
 }
 
-// Whether each listed cpu is a cpuid of the guest.
-fn names_cpus(cpus: &[u16; MONDOS], count: usize, limit: u8) -> bool
+// Whether a list names a cpu that the guest has not.
+fn names_stranger(cpus: &[u16; MONDOS], count: usize, limit: u8) -> bool
     requires { ⌜ count ≤ 64 ⌝ }
-    ensures { λ r. ⌜ r ≡ allBelow count (λ i. ltb (getD (now (cpus .entry)) i 0) limit) ⌝ }
+    ensures { λ r. ⌜ r ≡ someBelow count (λ i. isStranger limit (getD (now (cpus .entry)) i 0)) ⌝ }
 {
     let mut i = 0;
     while i < count {
-        if !is_below(cpus[i], limit) {
-            return false;
+        if is_stranger(cpus[i], limit) {
+            return true;
         }
         i += 1;
     }
-    true
+    false
 }
 
 // What is asked of the listed cpus.
@@ -136,7 +142,7 @@ fn judge_cpus(cpus: &[u16; MONDOS], count: usize, cpu: usize, limit: u8) -> Verd
     if names_caller(cpus, count, cpu) {
         return Verdict::Refused(Refusal::EINVAL);
     }
-    if !names_cpus(cpus, count, limit) {
+    if names_stranger(cpus, count, limit) {
         return Verdict::Refused(Refusal::ENOCPU);
     }
     Verdict::Right
@@ -192,8 +198,8 @@ fn tails_of(plant: Plant) -> [u16; CPUS]
     tails
 }
 
-// The packet to each cpu of the list, in its order. A cpu may stand there twice, so each ring is taken with its tail as it is
-// by then.
+// The packet to each cpu of the list, in its order, but for the entries that are passed over. A cpu may stand there twice, so
+// each ring is taken with its tail as it is by then.
 fn send_all(
     extents: Extents,
     plant: Plant,
@@ -205,7 +211,7 @@ fn send_all(
 ) -> Sent
     requires { ⌜ Sound extents plant (length (now mem)) ⌝ }
     requires { ⌜ (count ≤ length (now cpus)) × (count ≤ 64) ⌝ }
-    requires { ⌜ ((i : ℕ) → i < count → getD (now cpus) i 0 < plant .cpus) ⌝ }
+    requires { ⌜ ((i : ℕ) → i < count → isStranger (plant .cpus) (getD (now cpus) i 0) ≡ false) ⌝ }
     requires { ⌜ valid (present extents) list (2 * count) ≡ true ⌝ }
     ensures { λ r. ⌜ Sends extents (sendAll plant (take count (now (cpus .entry))) (now (packet .entry)) list)
         (now (mem .entry)) (record { plant = withTails plant (r .tails); all = r .all }) (now (mem .exit)) ⌝ }
@@ -214,8 +220,13 @@ fn send_all(
     let mut all = true;
     let mut i = 0;
     while i < count {
-        let cpu = cpus[i] as usize;
+        let listed = cpus[i];
         let mark = list + 2 * (i as u64);
+        i += 1;
+        if passed_over(listed) {
+            continue;
+        }
+        let cpu = listed as usize;
         let c = plant.cpu[cpu];
         let queue = c.queue[0];
         let held = queue.held;
@@ -224,7 +235,6 @@ fn send_all(
         let after = put.held;
         tails[cpu] = tail_of(after);
         all = all & put.room;
-        i += 1;
     }
     Sent { tails, all }
 }

@@ -61,7 +61,8 @@ storedWords =
     ∷ tells (loading 1 0x100) 0xfedc_ba98_7654_3210
     ∷ []
 
--- the paper's mondo from cpu 0 to the list 1, 1, where cpu 1's ring has n 2: one is sent and one left, until the head moves
+-- the paper's mondo from cpu 0 to the list 1, 1, where cpu 1's ring has n 2: one is sent and one left, until the head
+-- moves and the list is sent again
 abbrev pub mondoLeft : List Step
 mondoLeft =
     accepted (call 0xff 0 1 1 0)
@@ -75,7 +76,7 @@ mondoLeft =
     ∷ tells (loading 0 0xb8) 0x99aa_bbcc_ddee_ff00
     ∷ tells (loading 0 0xc0) 0
     ∷ accepted (headBy 1 0x3c 0x40)
-    ∷ accepted (callBy 0 0x42 1 2 0x40)
+    ∷ accepted (callBy 0 0x42 2 0 0x40)
     ∷ tells (loading 0 0) 0xffff_ffff_0000_0000
     ∷ tells (loading 0 0xc0) 0x1122_3344_5566_7788
     ∷ []

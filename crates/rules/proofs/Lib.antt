@@ -7,6 +7,7 @@ pub mod DoorCases
 pub mod Examples
 pub mod ImageCases
 pub mod KeptCases
+pub mod Listed
 pub mod MemoryCases
 pub mod MondoCases
 pub mod QueueCases

@@ -35,11 +35,12 @@ mondoRefusals =
     ∷ "call 0 0 80 42 1 2000 40" prints "2 0 0 0 0"
     ∷ "call 0 0 80 42 2 1ffe 40" prints "2 0 0 0 0"
     ∷ "call 0 1 80 42 1 1ffe 1fc0" prints "9 0 0 0 0"
-    -- "any entry equal to the caller EINVAL"; "after that, any entry that is no cpuid of the guest (0xffff too) ENOCPU"
+    -- "any entry equal to the caller EINVAL"; "after that, any entry that is no cpuid of the guest .. ENOCPU"
     ∷ "call 0 0 80 42 2 8 40" prints "6 0 0 0 0"
     ∷ "call 0 1 80 42 2 0 40" prints "6 0 0 0 0"
     ∷ "call 0 1 80 42 2 8 40" prints "1 0 0 0 0"
-    ∷ "call 0 0 80 42 1 10 40" prints "1 0 0 0 0"
+    -- "a list of nothing but 0xffff answers EOK and writes nothing"
+    ∷ "call 0 0 80 42 1 10 40" prints "0 0 0 0 0"
     ∷ "call 0 1 80 42 8 2 40" prints "1 0 0 0 0"
     -- the entry behind the list is not read
     ∷ "call 0 1 80 42 1 2 40" prints "0 0 0 0 0" setting (ring 0 2 0x3c 0x80 0x80 0 0x40 ∷ word 0 0x0001_ffff_0000_0000 ∷ [])
@@ -128,11 +129,66 @@ mondosOverlap =
     ∷ [])
     ∷ []
 
+-- Cpu 1 has a ring of two at 0x80. The list 1, 1 stands at 0; the lists 0xffff, 0 and 0xffff, 2 at 8; 0xffff, 0xfffe at 0x10;
+-- 1, 0xffff, 1 at 0x18.
+abbrev pub resentReady : List String
+resentReady =
+    "image 11 220 0000000 0001 0000"
+    ∷ "call 0 0 ff 0 1 1 0"
+    ∷ "call 0 1 80 14 3c 80 2"
+    ∷ "store 0 0 1000100000000"
+    ∷ "store 0 8 ffff0000ffff0002"
+    ∷ "store 0 10 fffffffe00000000"
+    ∷ "store 0 18 1ffff00010000"
+    ∷ "store 0 40 1122334455667788"
+    ∷ []
+
+-- "an entry that reads 0xffff is passed over. The caller and cpu checks look at the other entries only; a list of nothing but
+-- 0xffff answers EOK and writes nothing."
+abbrev pub mondosResent : List Exchange
+mondosResent =
+    -- one of two is sent; again, while the ring is full; again, when it has room; and once more
+    "call 0 0 80 42 2 0 40" prints "9 0 0 0 0" setting (ring 0 1 0x3c 0x80 0x80 0 0x40 ∷ word 0 0xffff_0001_0000_0000 ∷ word 0x80 0x1122_3344_5566_7788 ∷ [])
+    ∷ "call 0 0 80 42 2 0 40" prints "9 0 0 0 0"
+    ∷ "head 0 1 3c 40" prints "0 0 0 0 0" setting (ring 0 1 0x3c 0x80 0x80 0x40 0x40 ∷ [])
+    ∷ "call 0 0 80 42 2 0 40" prints "0 0 0 0 0" setting (ring 0 1 0x3c 0x80 0x80 0x40 0 ∷ word 0 0xffff_ffff_0000_0000 ∷ word 0xc0 0x1122_3344_5566_7788 ∷ [])
+    ∷ "call 0 0 80 42 2 0 40" prints "0 0 0 0 0"
+    -- of nothing but 0xffff the count, the alignment and the ranges are still tried
+    ∷ "call 0 0 80 42 0 0 40" prints "6 0 0 0 0"
+    ∷ "call 0 0 80 42 2 1 40" prints "8 0 0 0 0"
+    ∷ "call 0 0 80 42 2 0 2000" prints "2 0 0 0 0"
+    -- the other entry is the caller, or no cpuid, as 0xfffe is
+    ∷ "call 0 0 80 42 2 8 40" prints "6 0 0 0 0"
+    ∷ "call 0 0 80 42 2 c 40" prints "1 0 0 0 0"
+    ∷ "call 0 0 80 42 2 10 40" prints "1 0 0 0 0"
+    -- two that are sent and one between them
+    ∷ "call 0 1 80 14 3c 100 4" prints "0 0 0 0 0" setting (ring 0 1 0x3c 0x100 0x100 0 0 ∷ [])
+    ∷ "call 0 0 80 42 3 18 40"
+    prints "0 0 0 0 0"
+    setting (ring 0 1 0x3c 0x100 0x100 0 0x80
+    ∷ word 0x18 0xffff_ffff_ffff_0000
+    ∷ word 0x100 0x1122_3344_5566_7788
+    ∷ word 0x140 0x1122_3344_5566_7788
+    ∷ [])
+    -- the list 1, 0xffff in the ring: the data is written over both, and the first alone is marked
+    ∷ "call 0 1 80 14 3c 80 2" prints "0 0 0 0 0" setting (ring 0 1 0x3c 0x80 0x80 0 0 ∷ [])
+    ∷ "store 0 80 1ffff00000000" prints "0 0 0 0 0" setting (word 0x80 0x0001_ffff_0000_0000 ∷ [])
+    ∷ "call 0 0 80 42 2 80 40" prints "0 0 0 0 0" setting (ring 0 1 0x3c 0x80 0x80 0 0x40 ∷ word 0x80 0xffff_3344_5566_7788 ∷ [])
+    -- the list 1, 1 in the ring, and data of ones: the second reads 0xffff by its turn, and is sent all the same
+    ∷ "store 0 40 ffffffffffffffff" prints "0 0 0 0 0" setting (word 0x40 0xffff_ffff_ffff_ffff ∷ [])
+    ∷ "call 0 1 80 14 3c 100 4" prints "0 0 0 0 0" setting (ring 0 1 0x3c 0x100 0x100 0 0 ∷ [])
+    ∷ "store 0 100 1000100000000" prints "0 0 0 0 0" setting (word 0x100 0x0001_0001_0000_0000 ∷ [])
+    ∷ "call 0 0 80 42 2 100 40"
+    prints "0 0 0 0 0"
+    setting (ring 0 1 0x3c 0x100 0x100 0 0x80 ∷ word 0x100 0xffff_ffff_ffff_ffff ∷ word 0x140 0xffff_ffff_ffff_ffff ∷ [])
+    ∷ []
+
 pub record MondoCases : Type 0 where
   pub refusals : Cases 8192 threeCpus mondoRefusals
   pub sent : Cases 8192 mondoReady mondosSent
   pub overlap : Cases 8192 overlapReady mondosOverlap
+  pub resent : Cases 8192 resentReady mondosResent
 
 pub mondo-cases : MondoCases
 unfolding computing comparing after heard
-mondo-cases = record { refusals = refl; sent = refl; overlap = refl }
+mondo-cases = record { refusals = refl; sent = refl; overlap = refl; resent = refl }

@@ -1,12 +1,11 @@
 -- Laws of the scans, for any loop that counts up: i is the loop's index, n its end, and t what the code's test at i came to.
-use mathlib.Core.Bool.{Bool, true, false, not, or-true, and-false, true≢false, false≢true}
+use mathlib.Core.Bool.{Bool, true, false, or-true, and-false, true≢false, false≢true}
 use mathlib.Core.Path.{_≡_, refl, sym, _∙_}
 use mathlib.Core.Logic.{⊎-elim}
 use Prim.Native.Nat.{ℕ, zero, suc, _+_, _<_, _≤_}
 use native.Mathlib.Nat.{eq-or-lt-of-le}
 use native.Mathlib.Numerals.{add-one}
 use native.Mathlib.Omega.{arith}
-use borrow.Author.Tests.{not-true, not-false}
 use Rattle.rules.specs.Types.{Found}
 use Rattle.rules.specs.Scan.{someBelow, allBelow, firstBelow, foundOr}
 
@@ -91,13 +90,6 @@ module _ (p : ℕ → Bool) where
 
   pub all-fails : (i n : ℕ) (t : Bool) → i < n → t ≡ p i → t ≡ false → false ≡ allBelow n p
   all-fails i n t h b e = fails-at i n h (sym b ∙ e)
-
-  -- the same for a loop that is left by `if !test`
-  pub all-goes : (i : ℕ) (t : Bool) → allBelow i p ≡ true → t ≡ p i → not t ≡ false → allBelow (i + 1) p ≡ true
-  all-goes i t a b e = all-next i t a b (not-false t e)
-
-  pub all-stops : (i n : ℕ) (t : Bool) → i < n → t ≡ p i → not t ≡ true → false ≡ allBelow n p
-  all-stops i n t h b e = all-fails i n t h b (not-true t e)
 
 -- each of the numbers below n
 pub all-at : (p : ℕ → Bool) (n i : ℕ) → allBelow n p ≡ true → i < n → p i ≡ true

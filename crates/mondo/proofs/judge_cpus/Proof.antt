@@ -10,8 +10,8 @@ names-caller-requires c κs = search needs
 returns : tie.Need-returns
 returns c = search cpus-caller
 
-names-cpus-requires : tie.Need-names-cpus-requires
-names-cpus-requires c κs = search needs
+names-stranger-requires : tie.Need-names-stranger-requires
+names-stranger-requires c κs = search needs
 
 returns-2 : tie.Need-returns-2
 returns-2 c = search cpus-stranger
@@ -21,4 +21,4 @@ returns-3 c = search cpus-right
 
 pub judge-cpus-spec : {M : Type 1} → statement M
 judge-cpus-spec =
-    tie.close (tie.spec names-caller-requires returns names-cpus-requires returns-2 returns-3)
+    tie.close (tie.spec names-caller-requires returns names-stranger-requires returns-2 returns-3)

@@ -1,18 +1,18 @@
--- `mondo::names_caller` meets its contract: the invariant is that none of the first i listed cpus does.
+-- `mondo::names_caller` meets its contract: the invariant is that none of the first i entries is the caller.
 use native.Mathlib.Omega.{arith}
 use borrow.Author.Needs.{needs}
 use mathlib.Core.Path.{_≡_}
 use mathlib.Core.Bool.{false}
 use Prim.Native.Nat.{_≤_, _-_}
-use lib.Dec.{eqb}
 use lib.ListN.{getD}
 use Rattle.rules.specs.Scan.{someBelow}
+use Rattle.rules.specs.Mondo.{isCaller}
 use Rattle.rules.proofs.Scan.{some-start, some-next, some-found, some-end}
 use Rattle.mondo.proofs.names_caller.Statement.{statement}
 use Rattle.mondo.proofs.names_caller.Tie as tie
 
 abbrev Inv-loop : tie.InvT-loop
-Inv-loop cpus count cpu i₀ i = (i ≤ count) × (someBelow i (λ j. eqb (getD cpus j 0) cpu) ≡ false)
+Inv-loop cpus count cpu i₀ i = (i ≤ count) × (someBelow i (λ j. isCaller cpu (getD cpus j 0)) ≡ false)
 
 abbrev μ-loop : tie.MeasureT-loop
 μ-loop cpus count cpu i₀ i = count - i
@@ -20,14 +20,14 @@ abbrev μ-loop : tie.MeasureT-loop
 loop-holds : tie.Need-loop-holds Inv-loop μ-loop
 loop-holds c = (omega arith, some-start _)
 
-mul-is-cpu : tie.Need-mul-is-cpu Inv-loop μ-loop
-mul-is-cpu c = omega arith
+mul-is-caller : tie.Need-mul-is-caller Inv-loop μ-loop
+mul-is-caller c = omega arith
 
-element-copy-out-is-cpu : tie.Need-element-copy-out-is-cpu Inv-loop μ-loop
-element-copy-out-is-cpu c = omega arith
+element-copy-out-is-caller : tie.Need-element-copy-out-is-caller Inv-loop μ-loop
+element-copy-out-is-caller c = omega arith
 
-is-cpu-requires : tie.Need-is-cpu-requires Inv-loop μ-loop
-is-cpu-requires c κs = search needs
+is-caller-requires : tie.Need-is-caller-requires Inv-loop μ-loop
+is-caller-requires c κs = search needs
 
 returns : tie.Need-returns Inv-loop μ-loop
 returns c = search some-found
@@ -51,9 +51,9 @@ names-caller-spec =
     Inv-loop
     μ-loop
     loop-holds
-    mul-is-cpu
-    element-copy-out-is-cpu
-    is-cpu-requires
+    mul-is-caller
+    element-copy-out-is-caller
+    is-caller-requires
     returns
     add-i
     loop-less

@@ -2,15 +2,17 @@
 -- whole makes of those at entry.
 use native.Mathlib.Omega.{arith}
 use borrow.Author.Needs.{needs}
-use mathlib.Core.Path.{_≡_, refl, _∙_}
-use Prim.Native.Nat.{_≤_, _-_, _*_}
+use mathlib.Core.Bool.{false}
+use mathlib.Core.Path.{_≡_, refl, sym, _∙_}
+use Prim.Native.Nat.{ℕ, _≤_, _<_, _-_, _*_}
 use denote.Ref.{now}
 use lib.ListN.{length, getD, set, length-set}
+use Rattle.rules.specs.Mondo.{passedOver, isStranger}
 use Rattle.memory.proofs.Places.{valid-part}
 use Rattle.plants.specs.Changes.{withTails}
 use Rattle.plants.proofs.Reach.{range-ends}
 use Rattle.mondo.proofs.RingTails.{now-sound, tail-sent}
-use Rattle.mondo.proofs.SendLaws.{Sending, sending-none, sending-more, sending-done}
+use Rattle.mondo.proofs.SendLaws.{Sending, index-below, other-below, sending-none, sending-more, sending-passed, sending-done}
 use Rattle.mondo.proofs.send_all.Statement.{statement}
 use Rattle.mondo.proofs.send_all.Tie as tie
 
@@ -26,109 +28,112 @@ tails-of-requires c κs = c .before .pre .0 .cpus
 loop-holds : tie.Need-loop-holds Inv-loop μ-loop
 loop-holds c = (omega arith, refl, omega arith, rw (c .tails-of .ensures) (sending-none _ _ _ _ _ _ _ (c .before .before .pre .0)))
 
-mul-cpu : tie.Need-mul-cpu Inv-loop μ-loop
-mul-cpu c = omega arith
+mul-listed : tie.Need-mul-listed Inv-loop μ-loop
+mul-listed c = omega arith
 
-element-copy-out-cpu : tie.Need-element-copy-out-cpu Inv-loop μ-loop
-element-copy-out-cpu c = omega arith
-
-cast-cpu : tie.Need-cast-cpu Inv-loop μ-loop
-cast-cpu c =
-    let l = c .before .before in
-    let s = l .before .before .before in
-    omega (arith, s .pre .1 .1 .0 (l .loop .i) (omega arith), s .pre .0 .cpus)
+element-copy-out-listed : tie.Need-element-copy-out-listed Inv-loop μ-loop
+element-copy-out-listed c = omega arith
 
 mul-mark : tie.Need-mul-mark Inv-loop μ-loop
 mul-mark c = omega arith
 
 add-mark : tie.Need-add-mark Inv-loop μ-loop
 add-mark c =
-    let l = c .before .before in
-    let s = l .before .before .before in
+    let s = c .before .before .before .before .before in
     omega (arith, range-ends (s .args .extents) _ (s .args .list) (2 * s .args .count) (s .good .0) (s .pre .1 .1 .1) (omega arith))
-
-mul-c : tie.Need-mul-c Inv-loop μ-loop
-mul-c c =
-    let l = c .before .before in
-    let s = l .before .before .before in
-    omega (arith, s .pre .1 .1 .0 (l .loop .i) (omega arith), s .pre .0 .cpus)
-
-element-copy-out-c : tie.Need-element-copy-out-c Inv-loop μ-loop
-element-copy-out-c c =
-    let l = c .before .before in
-    let s = l .before .before .before in
-    omega (arith, s .pre .1 .1 .0 (l .loop .i) (omega arith), s .pre .0 .cpus)
-
-element-copy-out-queue : tie.Need-element-copy-out-queue Inv-loop μ-loop
-element-copy-out-queue c = omega arith
-
-mul-at-tail : tie.Need-mul-at-tail Inv-loop μ-loop
-mul-at-tail c =
-    let l = c .before .before .before .before in
-    let s = l .before .before .before in
-    omega (arith, s .pre .1 .1 .0 (l .loop .i) (omega arith), s .pre .0 .cpus)
-
-array-read-at-tail : tie.Need-array-read-at-tail Inv-loop μ-loop
-array-read-at-tail c =
-    let l = c .before .before .before .before in
-    let s = l .before .before .before in
-    omega (arith, s .pre .1 .1 .0 (l .loop .i) (omega arith), s .pre .0 .cpus)
-
-at-tail-requires : tie.Need-at-tail-requires Inv-loop μ-loop
-at-tail-requires c κs = search needs
-
-send-one-requires : tie.Need-send-one-requires Inv-loop μ-loop
-send-one-requires c κs =
-    let l = c .before .before .before .before .before .before in
-    let s = l .before .before .before in
-    let k = l .loop .inv .3 .kept in
-    let b = s .pre .1 .1 .0 (l .loop .i) (omega arith) in
-    (k .sound .few, (k .sound .ready, (now-sound (s .args .extents) (s .args .t2) (l .loop .tails) _ b _ (c .before .at-tail .ensures) (k .sound .rings _ 0 (rw (k .same) b) (omega arith)), valid-part _ _ _ _ _ (s .pre .1 .1 .1) (omega arith))))
-
-tail-of-requires : tie.Need-tail-of-requires Inv-loop μ-loop
-tail-of-requires c κs = search needs
-
-mul-tails : tie.Need-mul-tails Inv-loop μ-loop
-mul-tails c =
-    let t = c .before .before .before .before .before .before .before .before .before in
-    let l = t .before in
-    let s = l .before .before .before in
-    omega (arith, s .pre .1 .1 .0 (l .loop .i) (t .loop-test .taken), s .pre .0 .cpus)
-
-array-write-tails : tie.Need-array-write-tails Inv-loop μ-loop
-array-write-tails c =
-    let t = c .before .before .before .before .before .before .before .before .before in
-    let l = t .before in
-    let s = l .before .before .before in
-    omega (arith, s .pre .1 .1 .0 (l .loop .i) (t .loop-test .taken), s .pre .0 .cpus)
 
 add-i : tie.Need-add-i Inv-loop μ-loop
 add-i c = omega arith
+
+passed-over-requires : tie.Need-passed-over-requires Inv-loop μ-loop
+passed-over-requires c κs = search needs
 
 loop-less : tie.Need-loop-less Inv-loop μ-loop
 loop-less c = omega arith
 
 loop-again : tie.Need-loop-again Inv-loop μ-loop
-loop-again c =
+loop-again c = (omega arith, search needs, search needs, search sending-passed)
+
+-- the other needs of an entry that is sent to cite this one
+element-copy-out-c : tie.Need-element-copy-out-c Inv-loop μ-loop
+element-copy-out-c c = search index-below
+
+cast-cpu : tie.Need-cast-cpu Inv-loop μ-loop
+cast-cpu c = omega (arith, element-copy-out-c c)
+
+mul-c : tie.Need-mul-c Inv-loop μ-loop
+mul-c c = omega (arith, element-copy-out-c c)
+
+element-copy-out-queue : tie.Need-element-copy-out-queue Inv-loop μ-loop
+element-copy-out-queue c = omega arith
+
+mul-at-tail : tie.Need-mul-at-tail Inv-loop μ-loop
+mul-at-tail c = omega (arith, element-copy-out-c (c .before .before))
+
+array-read-at-tail : tie.Need-array-read-at-tail Inv-loop μ-loop
+array-read-at-tail c = omega (arith, element-copy-out-c (c .before .before))
+
+at-tail-requires : tie.Need-at-tail-requires Inv-loop μ-loop
+at-tail-requires c κs = search needs
+
+-- the turn and the call that a test of an entry stands in, and the entry: it is a cpuid
+abbrev turn : tie.Else1 Inv-loop μ-loop → tie.At-loop Inv-loop μ-loop
+turn e = e .before .before .before .before
+
+abbrev call : tie.Else1 Inv-loop μ-loop → tie.Start Inv-loop μ-loop
+call e = turn e .before .before .before
+
+abbrev entry : tie.Else1 Inv-loop μ-loop → ℕ
+entry e = getD (now (call e .args .cpus)) (turn e .loop .i) 0
+
+other : (e : tie.Else1 Inv-loop μ-loop) → passedOver (entry e) ≡ false
+other e = sym (e .before .passed-over .ensures) ∙ e .if1 .left
+
+known : (e : tie.Else1 Inv-loop μ-loop) → isStranger (call e .args .t2 .cpus) (entry e) ≡ false
+known e = call e .pre .1 .1 .0 (turn e .loop .i) (e .before .before .before .loop-test .taken)
+
+cpuid : (e : tie.Else1 Inv-loop μ-loop) → entry e < call e .args .t2 .cpus
+cpuid e = other-below _ _ (known e) (other e)
+
+send-one-requires : tie.Need-send-one-requires Inv-loop μ-loop
+send-one-requires c κs =
+    let e = c .before .before .before .before in
+    let s = call e in
+    let k = turn e .loop .inv .3 .kept in
+    (k .sound .few, (k .sound .ready, (now-sound (s .args .extents) (s .args .t2) (turn e .loop .tails) _ (cpuid e) _ (c .before .at-tail .ensures) (k .sound .rings _ 0 (rw (k .same) (cpuid e)) (omega arith)), valid-part _ _ _ _ _ (s .pre .1 .1 .1) (omega arith))))
+
+tail-of-requires : tie.Need-tail-of-requires Inv-loop μ-loop
+tail-of-requires c κs = search needs
+
+mul-tails : tie.Need-mul-tails Inv-loop μ-loop
+mul-tails c = omega (arith, element-copy-out-c (c .before .before .before .before .before .before .before .before))
+
+array-write-tails : tie.Need-array-write-tails Inv-loop μ-loop
+array-write-tails c = omega (arith, element-copy-out-c (c .before .before .before .before .before .before .before .before))
+
+loop-less-2 : tie.Need-loop-less-2 Inv-loop μ-loop
+loop-less-2 c = omega arith
+
+loop-again-2 : tie.Need-loop-again-2 Inv-loop μ-loop
+loop-again-2 c =
     let a = c .before in
-    let t = a .before .before .before .before .before .before .before .before .before in
-    let l = t .before in
-    let s = l .before .before .before in
-    let h = t .loop-test .taken in
-    let b = s .pre .1 .1 .0 (l .loop .i) h in
     let d = a .before .before .before in
-    let tails = set (l .loop .tails) (getD (now (s .args .cpus)) (l .loop .i) 0) (a .tail-of .result) in (
+    let e = d .before .before .before .before .before in
+    let l = turn e .loop in
+    let s = call e in
+    let h = e .before .before .before .loop-test .taken in
+    let tails = set (l .tails) (entry e) (a .tail-of .result) in (
       omega (arith, h),
-      d .send-one .kept .1 .1 .0 ∙ l .loop .inv .1,
-      simp length-set (l .loop .inv .2),
-      sending-more _ _ _ _ _ _ _ _ _ _ _ (record { plant = withTails (s .args .t2) tails; all = d .send-one .result .room }) _ (l .loop .inv .3) h (s .pre .1 .0 .0) b (tail-sent _ (s .args .t2) (l .loop .tails) _ b _ (d .before .before .at-tail .ensures) _ _ _ (d .send-one .result) _ (a .tail-of .result) (omega (arith, b, s .pre .0 .cpus, l .loop .inv .2)) (d .send-one .ensures) (a .tail-of .ensures)) (d .send-one .kept .1 .1 .0),
+      d .send-one .kept .1 .1 .0 ∙ l .inv .1,
+      simp length-set (l .inv .2),
+      sending-more _ _ _ _ _ _ _ _ _ _ _ (record { plant = withTails (s .args .t2) tails; all = d .send-one .result .room }) _ (l .inv .3) h (s .pre .1 .0 .0) (known e) (tail-sent _ (s .args .t2) (l .tails) _ (cpuid e) _ (d .before .before .at-tail .ensures) (other e) _ _ _ (d .send-one .result) _ (a .tail-of .result) (omega (arith, element-copy-out-c e, l .inv .2)) (d .send-one .ensures) (a .tail-of .ensures)) (d .send-one .kept .1 .1 .0),
     )
 
 same-length : tie.Need-same-length Inv-loop μ-loop
 same-length c = c .before .loop .inv .1
 
 returns : tie.Need-returns Inv-loop μ-loop
-returns c = sending-done _ _ _ _ _ _ _ _ _ _ _ (c .before .loop .inv .3) (omega arith) (omega arith)
+returns c = search sending-done
 
 pub send-all-spec : {M : Type 1} → statement M
 send-all-spec =
@@ -138,11 +143,15 @@ send-all-spec =
     μ-loop
     tails-of-requires
     loop-holds
-    mul-cpu
-    element-copy-out-cpu
-    cast-cpu
+    mul-listed
+    element-copy-out-listed
     mul-mark
     add-mark
+    add-i
+    passed-over-requires
+    loop-less
+    loop-again
+    cast-cpu
     mul-c
     element-copy-out-c
     element-copy-out-queue
@@ -153,8 +162,7 @@ send-all-spec =
     tail-of-requires
     mul-tails
     array-write-tails
-    add-i
-    loop-less
-    loop-again
+    loop-less-2
+    loop-again-2
     same-length
     returns)

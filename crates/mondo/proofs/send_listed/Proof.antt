@@ -1,7 +1,7 @@
 -- `mondo::send_listed` meets its contract: each return is the rule's case, by what was read and the tests on the way.
 use native.Mathlib.Omega.{arith}
 use borrow.Author.Needs.{needs}
-use Rattle.mondo.proofs.ListedLaws.{listed-below, listed-refused, listed-sent, listed-left}
+use Rattle.mondo.proofs.ListedLaws.{none-strange, listed-refused, listed-sent, listed-left}
 use Rattle.mondo.proofs.send_listed.Statement.{statement}
 use Rattle.mondo.proofs.send_listed.Tie as tie
 
@@ -28,8 +28,8 @@ send-all-requires c κs =
     let t = c .before .before .before .before .before in
     let j = t .before .before in
     let s = j .before .before .before .before .before in
-    let below = listed-below (j .before .before .read-list .result) (s .args .count) (s .args .cpu) (s .args .plant) _ (j .judge-cpus .ensures) (t .enum-told .given .1) in
-    (s .pre .0, ((omega (arith, j .before .before .read-list .ok), s .pre .1 .0), (below, s .pre .1 .1 .0)))
+    let known = none-strange (j .before .before .read-list .result) (s .args .count) (s .args .cpu) (s .args .plant) _ (j .judge-cpus .ensures) (t .enum-told .given .1) in
+    (s .pre .0, ((omega (arith, j .before .before .read-list .ok), s .pre .1 .0), (known, s .pre .1 .1 .0)))
 
 told-tails-requires : tie.Need-told-tails-requires
 told-tails-requires c κs = search needs
