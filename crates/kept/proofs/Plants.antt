@@ -1,7 +1,8 @@
 -- A plant that keeps the rules, with one part of its record replaced by one that is right.
 use mathlib.Core.Path.{_≡_, refl, _∙_}
 use mathlib.Core.Bool.{Bool, true, _&&_}
-use Prim.Native.Nat.{ℕ, _<_}
+use Prim.Native.Nat.{ℕ, _≤_, _<_}
+use native.Mathlib.Omega.{arith}
 use lib.Dec.{leb}
 use lib.ListN.{getD, set}
 use Rattle.rules.specs.declared.Cpu.{Cpu}
@@ -47,19 +48,21 @@ module _ (v : ℕ → ℕ → Bool) (plant : Plant) (e : plantKeeps v plant ≡ 
   pub source-there : (i : ℕ) → i < plant .sources → sourceRight plant (sourceAt plant i) ≡ true
   source-there i h = list-there sourceLimit (plant .sources) (λ i. sourceRight plant (sourceAt plant i)) (λ i. sourceBlank (sourceAt plant i)) sources-part i h
 
--- a plant's record after, which keeps the rules and names the same sources
+-- a plant's record after, which keeps the rules and names the same sources, and under which group 1 stays negotiated
 pub record Kept (v : ℕ → ℕ → Bool) (plant after : Plant) : Type 0 where
   pub keeps : plantKeeps v after ≡ true
+  pub core : plant .versions .core ≤ after .versions .core
   pub cpus : after .cpus ≡ plant .cpus
   pub sources : after .sources ≡ plant .sources
   pub named : (i : ℕ) → (sourceAt after i .devhandle ≡ sourceAt plant i .devhandle) × (sourceAt after i .devino ≡ sourceAt plant i .devino)
 
 pub unchanged : (v : ℕ → ℕ → Bool) (plant : Plant) → plantKeeps v plant ≡ true → Kept v plant plant
-unchanged v plant e = record { keeps = e; cpus = refl; sources = refl; named = λ i. (refl, refl) }
+unchanged v plant e = record { keeps = e; core = omega arith; cpus = refl; sources = refl; named = λ i. (refl, refl) }
 
 pub further : (v : ℕ → ℕ → Bool) (a b c : Plant) → Kept v a b → Kept v b c → Kept v a c
 further v a b c p q = record {
   keeps = q .keeps;
+  core = omega (arith, p .core, q .core);
   cpus = q .cpus ∙ p .cpus;
   sources = q .sources ∙ p .sources;
   named = λ i. (q .named i .0 ∙ p .named i .0, q .named i .1 ∙ p .named i .1);
@@ -69,7 +72,7 @@ module _ (v : ℕ → ℕ → Bool) (plant : Plant) (e : plantKeeps v plant ≡ 
   -- a cpu replaced
   pub cpu-replaced : (c : ℕ) (x : Cpu) → c < plant .cpus → cpuRight v x ≡ true → Kept v plant (withCpu plant c x)
   unfolding plantKeeps sourceRight
-  cpu-replaced c x h r = record { keeps = whole; cpus = refl; sources = refl; named = λ i. (refl, refl) }
+  cpu-replaced c x h r = record { keeps = whole; core = omega arith; cpus = refl; sources = refl; named = λ i. (refl, refl) }
     where
       places : listRight cpuLimit (plant .cpus) (λ j. cpuRight v (getD (set (plant .cpu) c x) j hollowCpu)) (λ j. cpuBlank (getD (set (plant .cpu) c x) j hollowCpu)) ≡ true
       places = list-replaced cpuLimit (plant .cpus) (cpuRight v) cpuBlank (plant .cpu) c x hollowCpu (cpus-part v plant e) h r
@@ -82,6 +85,7 @@ module _ (v : ℕ → ℕ → Bool) (plant : Plant) (e : plantKeeps v plant ≡ 
   unfolding withSource plantKeeps sourceRight
   source-replaced i s h r a b = record {
     keeps = whole;
+    core = omega arith;
     cpus = refl;
     sources = refl;
     named = λ j. (

@@ -1,24 +1,25 @@
 -- The queue calls, mondos among them, leave a record that keeps the rules.
 use mathlib.Core.Path.{_≡_, refl}
-use mathlib.Core.Bool.{Bool, true, _&&_, not}
-use mathlib.Core.List.{List, [], _∷_, _++_}
-use Prim.Native.Nat.{ℕ, zero, suc, _+_, _*_, _%_, _<_}
+use mathlib.Core.Bool.{Bool, true, false, _&&_, not}
+use mathlib.Core.List.{List, [], _∷_}
+use Prim.Native.Nat.{ℕ, _+_, _*_, _%_, _<_}
 use native.Mathlib.Omega.{arith}
 use lib.Dec.{leb, ltb, eqb}
-use borrow.Author.Tests.{leb-true, ltb-true, eqb-true}
+use borrow.Author.Tests.{leb-true, leb-false, ltb-true, eqb-true, not-true}
 use Rattle.rules.specs.declared.Plant.{Plant}
 use Rattle.rules.specs.declared.QueueRecord.{QueueRecord}
 use Rattle.rules.specs.declared.Refusal.the-variants.{EINVAL, EBADALIGN, ENORADDR, ENOCPU}
 use Rattle.rules.specs.declared.Ring.{Ring}
 use Rattle.rules.specs.Limits.{queueLimit}
-use Rattle.rules.specs.Scan.{someBelow, allBelow}
+use Rattle.rules.specs.Scan.{someBelow}
 use Rattle.rules.specs.Kept.{cpuAt, queueAt, cpuWithQueue, withQueue, withHead}
 use Rattle.rules.specs.Real.{Sight, bytesFrom}
 use Rattle.rules.specs.Rulings.{Ruling, granted, Outcome, done, _or-refuse_then_, _grants_, if_then_else_}
 use Rattle.rules.specs.Queues.{isQueue, indexOf, newRing, putIn, put, forward, ringOf, cpu-qconf, write-head}
-use Rattle.rules.specs.Mondo.{listedCpu, listedCpus, sendOne, sendAll, sentAs, cpu-mondo-send}
+use Rattle.rules.specs.Mondo.{listedCpu, listedCpus, passedOver, isCaller, isStranger, sendOne, sendAll, sentAs, cpu-mondo-send}
 use Rattle.rules.specs.Tables.{recordRight, ringRight, plantKeeps}
-use Rattle.rules.proofs.Scan.{all-at}
+use Rattle.rules.proofs.Listed.{Each, listed-each}
+use Rattle.rules.proofs.Scan.{none-at}
 use Rattle.rules.proofs.Tests.{and-left, and-right}
 use Rattle.kept.proofs.Plants.{Kept, unchanged, further, cpu-there, cpu-replaced, queue-right, with-queue}
 use Rattle.kept.proofs.Rings.{new-ring-right, head-right, put-right}
@@ -70,32 +71,27 @@ module _ (v : ℕ → ℕ → Bool) (plant : Plant) (e : plantKeeps v plant ≡ 
           (ltb value (ring .size) && leb (forward ring value) (forward ring (ring .tail))) or-refuse EINVAL then
           moved ring
 
-  -- an entry that is put, and one mondo
+  -- an entry that is put
   pub put-kept : (queue : ℕ) (entry : List ℕ) → indexOf queue < queueLimit → Kept v plant (put plant cpu queue entry .plant)
   unfolding put
   put-kept queue entry h =
       let held : QueueRecord = queueAt (cpuAt plant cpu) (indexOf queue) in
       queue-kept (indexOf queue) (putIn held entry .held) (put-right v held entry (queue-right v (cpuAt plant cpu) (cpu-there v plant e cpu there) (indexOf queue) h))
 
-  pub send-one : (packet : List ℕ) (mark : ℕ) → Kept v plant (sendOne plant cpu packet mark .plant)
-  unfolding sendOne
-  send-one packet mark = put-kept 0x3c packet (omega arith)
+-- one entry of a mondo's list
+send-one : (v : ℕ → ℕ → Bool) (plant : Plant) → plantKeeps v plant ≡ true → (cpu : ℕ) → isStranger (plant .cpus) cpu ≡ false → (packet : List ℕ) (mark : ℕ) → Kept v plant (sendOne plant cpu packet mark .plant)
+unfolding sendOne
+send-one v plant e cpu known packet mark = go (passedOver cpu) refl
+  where
+    go : (t : Bool) → passedOver cpu ≡ t → Kept v plant (sendOne plant cpu packet mark .plant)
+    go true q = rw q (unchanged v plant e)
+    go false q = rw q (put-kept v plant e cpu (leb-false (plant .cpus) cpu (rw q at known)) 0x3c packet (omega arith))
 
--- every number of a list is below a limit
-abbrev Below : ℕ → List ℕ → Type 0
-Below n [] = Unit {0}
-Below n (c ∷ cs) = (c < n) × Below n cs
+-- an entry is no stranger to a guest of n cpus
+abbrev Known : ℕ → ℕ → Type 0
+Known n listed = isStranger n listed ≡ false
 
-below-more : (n c : ℕ) (cs : List ℕ) → Below n cs → c < n → Below n (cs ++ (c ∷ []))
-below-more n c [] b h = (h, tt)
-below-more n c (x ∷ xs) b h = (b .0, below-more n c xs (b .1) h)
-
-listed-below : (byte : ℕ → ℕ) (list n k : ℕ) → ((i : ℕ) → i < k → listedCpu byte list i < n) → Below n (listedCpus byte list k)
-unfolding listedCpus
-listed-below byte list n zero f = tt
-listed-below byte list n (suc k) f = below-more n (listedCpu byte list k) (listedCpus byte list k) (listed-below byte list n k (λ i h. f i (omega arith))) (f k (omega arith))
-
-send-all : (v : ℕ → ℕ → Bool) (plant : Plant) → plantKeeps v plant ≡ true → (cpus packet : List ℕ) (mark : ℕ) → Below (plant .cpus) cpus → Kept v plant (sendAll plant cpus packet mark .plant)
+send-all : (v : ℕ → ℕ → Bool) (plant : Plant) → plantKeeps v plant ≡ true → (cpus packet : List ℕ) (mark : ℕ) → Each (Known (plant .cpus)) cpus → Kept v plant (sendAll plant cpus packet mark .plant)
 unfolding sendAll
 send-all v plant e [] packet mark b = unchanged v plant e
 send-all v plant e (c ∷ cs) packet mark b =
@@ -108,14 +104,14 @@ unfolding cpu-mondo-send
 mondo-fine sight plant e cpu count list at =
     let v = sight .valid in
     let last : Ruling Outcome = granted (sentAs (sendAll plant (listedCpus (sight .byte) list count) (bytesFrom (sight .byte) at 64) list)) in
-    let cpus : Bool = allBelow count (λ i. ltb (listedCpu (sight .byte) list i) (plant .cpus)) in
-    let caller : Bool = not (someBelow count (λ i. eqb (listedCpu (sight .byte) list i) cpu)) in
+    let strange : Bool = someBelow count (λ i. isStranger (plant .cpus) (listedCpu (sight .byte) list i)) in
+    let caller : Bool = not (someBelow count (λ i. isCaller cpu (listedCpu (sight .byte) list i))) in
     let ranges : Bool = sight .valid at 64 && sight .valid list (2 * count) in
     let aligned : Bool = eqb (at % 64) 0 && eqb (list % 2) 0 in
-    fine-then v plant e (leb 1 count && leb count 64) EINVAL (aligned or-refuse EBADALIGN then ranges or-refuse ENORADDR then caller or-refuse EINVAL then cpus or-refuse ENOCPU then last) (λ _.
-    fine-then v plant e aligned EBADALIGN (ranges or-refuse ENORADDR then caller or-refuse EINVAL then cpus or-refuse ENOCPU then last) (λ _.
-    fine-then v plant e ranges ENORADDR (caller or-refuse EINVAL then cpus or-refuse ENOCPU then last) (λ _.
-    fine-then v plant e caller EINVAL (cpus or-refuse ENOCPU then last) (λ _.
-    fine-then v plant e cpus ENOCPU last (λ h.
+    fine-then v plant e (leb 1 count && leb count 64) EINVAL (aligned or-refuse EBADALIGN then ranges or-refuse ENORADDR then caller or-refuse EINVAL then not strange or-refuse ENOCPU then last) (λ _.
+    fine-then v plant e aligned EBADALIGN (ranges or-refuse ENORADDR then caller or-refuse EINVAL then not strange or-refuse ENOCPU then last) (λ _.
+    fine-then v plant e ranges ENORADDR (caller or-refuse EINVAL then not strange or-refuse ENOCPU then last) (λ _.
+    fine-then v plant e caller EINVAL (not strange or-refuse ENOCPU then last) (λ _.
+    fine-then v plant e (not strange) ENOCPU last (λ h.
     send-all v plant e (listedCpus (sight .byte) list count) (bytesFrom (sight .byte) at 64) list
-    (listed-below (sight .byte) list (plant .cpus) count (λ i l. ltb-true (listedCpu (sight .byte) list i) (plant .cpus) (all-at (λ i. ltb (listedCpu (sight .byte) list i) (plant .cpus)) count i h l))))))))
+    (listed-each (sight .byte) list (Known (plant .cpus)) count (λ i l. none-at (λ i. isStranger (plant .cpus) (listedCpu (sight .byte) list i)) count i (not-true strange h) l)))))))

@@ -1,8 +1,9 @@
 -- Promise: what no event changes. So an event that finds memory long enough leaves it so for the next one.
-use mathlib.Core.Path.{_≡_, refl, ap, fun-ext}
+use mathlib.Core.Path.{_≡_, refl, ap, _∙_, fun-ext}
 use mathlib.Core.Bool.{Bool, true, false}
 use mathlib.Core.List.{List}
-use Prim.Native.Nat.{ℕ, _*_, _/_, _%_, _<_}
+use Prim.Native.Nat.{ℕ, _*_, _/_, _%_, _≤_, _<_}
+use native.Mathlib.Omega.{arith}
 use lib.Dec.{ltb}
 use lib.ListN.{length}
 use borrow.Author.Tests.{ltb-true}
@@ -24,18 +25,32 @@ use Rattle.tables.proofs.SoundTables.{plant-keeps}
 use Rattle.kept.proofs.Settled.{settled, event-settled}
 use Rattle.kept.proofs.Plants.{Kept}
 use Rattle.kept.proofs.Events.{plant-fine}
-use Rattle.kept.proofs.Tables.{extents-same, sources-same, handle-same, devino-same}
+use Rattle.kept.proofs.Tables.{extents-same, core-stays, cpus-same, sources-same, handle-same, devino-same}
 
--- What no event changes: how many guests there are, their extents, and their sources' names.
+-- What no event changes: how many guests there are, their extents, their cpus, and their sources' names. Nor does any take group 1
+-- back from a guest that negotiated it.
 pub record Steady (a b : Tables) : Type 0 where
   pub guests : b .guests ≡ a .guests
   pub extents : (j : ℕ) → guestAt b j .extents ≡ guestAt a j .extents
+  pub core : (j : ℕ) → plantAt a j .versions .core ≤ plantAt b j .versions .core
+  pub cpus : (j : ℕ) → plantAt b j .cpus ≡ plantAt a j .cpus
   pub sources : (j : ℕ) → plantAt b j .sources ≡ plantAt a j .sources
   pub handle : (j i : ℕ) → sourceAt (plantAt b j) i .devhandle ≡ sourceAt (plantAt a j) i .devhandle
   pub devino : (j i : ℕ) → sourceAt (plantAt b j) i .devino ≡ sourceAt (plantAt a j) i .devino
 
-steady-same : (a : Tables) → Steady a a
-steady-same a = record { guests = refl; extents = λ j. refl; sources = λ j. refl; handle = λ j i. refl; devino = λ j i. refl }
+pub steady-same : (a : Tables) → Steady a a
+steady-same a = record { guests = refl; extents = λ j. refl; core = λ j. omega arith; cpus = λ j. refl; sources = λ j. refl; handle = λ j i. refl; devino = λ j i. refl }
+
+pub steady-further : (a b c : Tables) → Steady a b → Steady b c → Steady a c
+steady-further a b c s t = record {
+  guests = t .guests ∙ s .guests;
+  extents = λ j. t .extents j ∙ s .extents j;
+  core = λ j. omega (arith, s .core j, t .core j);
+  cpus = λ j. t .cpus j ∙ s .cpus j;
+  sources = λ j. t .sources j ∙ s .sources j;
+  handle = λ j i. t .handle j i ∙ s .handle j i;
+  devino = λ j i. t .devino j i ∙ s .devino j i;
+}
 
 module _ (a b : Tables) (s : Steady a b) where
   sysino-same : (j d i : ℕ) → sysinoOf (plantAt b j) d i ≡ sysinoOf (plantAt a j) d i
@@ -76,6 +91,8 @@ module _ (tables : Tables) (memory : List ℕ) (event : Event) (keep : keepRules
             record {
               guests = refl;
               extents = extents-same tables keep g h (done g .plant) (fine g h);
+              core = core-stays tables keep g h (done g .plant) (fine g h);
+              cpus = cpus-same tables keep g h (done g .plant) (fine g h);
               sources = sources-same tables keep g h (done g .plant) (fine g h);
               handle = handle-same tables keep g h (done g .plant) (fine g h);
               devino = devino-same tables keep g h (done g .plant) (fine g h);

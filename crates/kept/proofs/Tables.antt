@@ -3,7 +3,8 @@
 use mathlib.Core.Path.{_≡_, refl, ap}
 use mathlib.Core.Bool.{Bool, true, false}
 use mathlib.Core.List.{List}
-use Prim.Native.Nat.{ℕ, _/_, _%_, _*_, _<_}
+use Prim.Native.Nat.{ℕ, _/_, _%_, _*_, _≤_, _<_}
+use native.Mathlib.Omega.{arith}
 use lib.Dec.{ltb}
 use lib.ListN.{length}
 use borrow.Author.Tests.{ltb-true}
@@ -42,6 +43,12 @@ module _ (tables : Tables) (keep : keepRules tables ≡ true) (g : ℕ) (there :
   -- what the guests' lists tell of the whole host is what it was
   pub extents-same : (j : ℕ) → guestAt next j .extents ≡ guestAt tables j .extents
   extents-same j = set-either (λ x. x .extents ≡ guestAt tables j .extents) (tables .guest) g j put hollowGuest (λ q. rw q) refl
+
+  pub core-stays : (j : ℕ) → plantAt tables j .versions .core ≤ plantAt next j .versions .core
+  core-stays j = set-either (λ x. plantAt tables j .versions .core ≤ x .plant .versions .core) (tables .guest) g j put hollowGuest (λ q. rw q (k .core)) (omega arith)
+
+  pub cpus-same : (j : ℕ) → plantAt next j .cpus ≡ plantAt tables j .cpus
+  cpus-same j = set-either (λ x. x .plant .cpus ≡ plantAt tables j .cpus) (tables .guest) g j put hollowGuest (λ q. rw q (k .cpus)) refl
 
   pub sources-same : (j : ℕ) → plantAt next j .sources ≡ plantAt tables j .sources
   sources-same j = set-either (λ x. x .plant .sources ≡ plantAt tables j .sources) (tables .guest) g j put hollowGuest (λ q. rw q (k .sources)) refl

@@ -37,9 +37,9 @@ module _ (v : ℕ → ℕ → Bool) (plant : Plant) (e : plantKeeps v plant ≡ 
   blank-past = list-past sourceLimit (plant .sources) (λ i. sourceRight plant (sourceAt plant i)) (λ i. sourceBlank (sourceAt plant i)) (sources-part v plant e)
 
   -- other versions, under which the sources are right
-  versions-kept : (n : Versions) → versionsRight n ≡ true → ((i : ℕ) → i < plant .sources → sourceRight (withVersions plant n) (sourceAt plant i) ≡ true) → Kept v plant (withVersions plant n)
+  versions-kept : (n : Versions) → versionsRight n ≡ true → plant .versions .core ≤ n .core → ((i : ℕ) → i < plant .sources → sourceRight (withVersions plant n) (sourceAt plant i) ≡ true) → Kept v plant (withVersions plant n)
   unfolding plantKeeps
-  versions-kept n r f = record { keeps = rw (cpus-least, r, cpus-part v plant e) places; cpus = refl; sources = refl; named = λ i. (refl, refl) }
+  versions-kept n r l f = record { keeps = rw (cpus-least, r, cpus-part v plant e) places; core = l; cpus = refl; sources = refl; named = λ i. (refl, refl) }
     where
       places : listRight sourceLimit (plant .sources) (λ i. sourceRight (withVersions plant n) (sourceAt plant i)) (λ i. sourceBlank (sourceAt plant i)) ≡ true
       places = list-right sourceLimit (plant .sources) (λ i. sourceRight (withVersions plant n) (sourceAt plant i)) (λ i. sourceBlank (sourceAt plant i)) (plant-sources v plant e) f blank-past
@@ -57,10 +57,11 @@ module _ (v : ℕ → ℕ → Bool) (plant : Plant) (e : plantKeeps v plant ≡ 
       (and-right (eqb (s .enabled) 0 && eqb (s .state) 0) rest (and-right name all b))
 
   -- the same with every source disabled
-  disabled-kept : (n : Versions) → versionsRight n ≡ true → ((i : ℕ) → i < plant .sources → sourceRight (withVersions plant n) (disabled (sourceAt plant i)) ≡ true) → Kept v plant (allDisabled (withVersions plant n))
+  disabled-kept : (n : Versions) → versionsRight n ≡ true → plant .versions .core ≤ n .core → ((i : ℕ) → i < plant .sources → sourceRight (withVersions plant n) (disabled (sourceAt plant i)) ≡ true) → Kept v plant (allDisabled (withVersions plant n))
   unfolding plantKeeps allDisabled sourceRight
-  disabled-kept n r f = record {
+  disabled-kept n r l f = record {
     keeps = rw (cpus-least, r, cpus-part v plant e) places;
+    core = l;
     cpus = refl;
     sources = refl;
     named = λ i. (ap (λ (s : Source). s .devhandle) (disabled-at i), ap (λ (s : Source). s .devino) (disabled-at i));
@@ -153,18 +154,18 @@ module _ (v : ℕ → ℕ → Bool) (plant : Plant) (e : plantKeeps v plant ≡ 
     interrupt-kept h m = go (ltb (plant .versions .interrupt) major) refl (eqb major 2) refl
       where
         go : (t : Bool) → ltb (plant .versions .interrupt) major ≡ t → (u : Bool) → eqb major 2 ≡ u → Kept v plant (if t && u then allDisabled (withVersions plant next) else withVersions plant next)
-        go true p true q = disabled-kept next (next-right h) (to-two (eqb-true major 2 q) (ltb-true (plant .versions .interrupt) major p))
-        go true p false q = versions-kept next (next-right h) (first-negotiated h (ltb-true (plant .versions .interrupt) major p) (eqb-false major 2 q))
+        go true p true q = disabled-kept next (next-right h) (omega arith) (to-two (eqb-true major 2 q) (ltb-true (plant .versions .interrupt) major p))
+        go true p false q = versions-kept next (next-right h) (omega arith) (first-negotiated h (ltb-true (plant .versions .interrupt) major p) (eqb-false major 2 q))
         go false p u q =
             let same : major ≡ plant .versions .interrupt = omega (arith, ltb-false (plant .versions .interrupt) major p) in
-            versions-kept next (next-right h) (λ i j. same-interrupt next i j same)
+            versions-kept next (next-right h) (omega arith) (λ i j. same-interrupt next i j same)
 
     negotiated-kept : (group : Group) → major ≤ newest group → majorOf (plant .versions) group ≤ major → Kept v plant (negotiated plant group major)
     negotiated-kept Group.Unknown h m = absurd (omega arith)
-    negotiated-kept Group.Sun4v h m = only-one Group.Sun4v h (versions-kept (withMajor (plant .versions) Group.Sun4v major) (made-right (withMajor (plant .versions) Group.Sun4v major) (le-leb major 1 h) core-right interrupt-right statistics-right) (λ i j. same-interrupt (withMajor (plant .versions) Group.Sun4v major) i j refl))
-    negotiated-kept Group.Core h m = only-one Group.Core h (versions-kept (withMajor (plant .versions) Group.Core major) (made-right (withMajor (plant .versions) Group.Core major) sun4v-right (le-leb major 1 h) interrupt-right statistics-right) (λ i j. same-interrupt (withMajor (plant .versions) Group.Core major) i j refl))
+    negotiated-kept Group.Sun4v h m = only-one Group.Sun4v h (versions-kept (withMajor (plant .versions) Group.Sun4v major) (made-right (withMajor (plant .versions) Group.Sun4v major) (le-leb major 1 h) core-right interrupt-right statistics-right) (omega arith) (λ i j. same-interrupt (withMajor (plant .versions) Group.Sun4v major) i j refl))
+    negotiated-kept Group.Core h m = only-one Group.Core h (versions-kept (withMajor (plant .versions) Group.Core major) (made-right (withMajor (plant .versions) Group.Core major) sun4v-right (le-leb major 1 h) interrupt-right statistics-right) m (λ i j. same-interrupt (withMajor (plant .versions) Group.Core major) i j refl))
     negotiated-kept Group.Interrupt h m = interrupt-kept h m
-    negotiated-kept Group.Statistics h m = only-one Group.Statistics h (versions-kept (withMajor (plant .versions) Group.Statistics major) (made-right (withMajor (plant .versions) Group.Statistics major) sun4v-right core-right interrupt-right (le-leb major 1 h)) (λ i j. same-interrupt (withMajor (plant .versions) Group.Statistics major) i j refl))
+    negotiated-kept Group.Statistics h m = only-one Group.Statistics h (versions-kept (withMajor (plant .versions) Group.Statistics major) (made-right (withMajor (plant .versions) Group.Statistics major) sun4v-right core-right interrupt-right (le-leb major 1 h)) (omega arith) (λ i j. same-interrupt (withMajor (plant .versions) Group.Statistics major) i j refl))
 
   pub set-version-fine : (group major : ℕ) → Fine v plant (set-version plant group major)
   unfolding set-version
