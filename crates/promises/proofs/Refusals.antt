@@ -22,14 +22,14 @@ use Rattle.rules.specs.declared.Refusal.{Refusal}
 use Rattle.rules.specs.declared.Refusal.the-variants.{EINVAL, EBADALIGN, ENORADDR, ENOCPU, EBADTRAP, ENOTSUPPORTED, EWOULDBLOCK, NoCaller, NoSource, BadTables, ShortMemory}
 use Rattle.rules.specs.declared.SourceCall.{SourceCall}
 use Rattle.rules.specs.declared.Tables.{Tables}
-use Rattle.rules.specs.Scan.{someBelow, allBelow}
+use Rattle.rules.specs.Scan.{someBelow}
 use Rattle.rules.specs.Kept.{plantAt, cpuAt, queueAt, sourceAt, extentsOf, hollowGuest}
 use Rattle.rules.specs.Real.{Sight, sightOf, bytesFrom, apply}
 use Rattle.rules.specs.Statuses.{statusOf}
 use Rattle.rules.specs.Rulings.{Ruling, refused, granted, Outcome, outcomeOf, _or-refuse_then_, _grants_, if_then_else_}
 use Rattle.rules.specs.Versions.{groupOf, known, majorOf, newest, set-version, get-version}
 use Rattle.rules.specs.Queues.{isQueue, forward, newRing, put, ringOf, baseAndSize, cpu-qconf, cpu-qinfo, cpu-myid, write-head}
-use Rattle.rules.specs.Mondo.{listedCpu, listedCpus, Sent, sendAll, sentAs, cpu-mondo-send}
+use Rattle.rules.specs.Mondo.{listedCpu, listedCpus, isCaller, isStranger, Sent, sendAll, sentAs, cpu-mondo-send}
 use Rattle.rules.specs.Tsb.{newTsbs, mmu-tsb-ctx0, mmu-tsb-ctxnon0}
 use Rattle.rules.specs.Memory.{wholePages, mem-scrub, mem-sync, wholeWord, store-word, load-word, newStatistics, setOrClear, mmustat-conf, mmustat-info}
 use Rattle.rules.specs.Sources.{found, sysinoOf, targetNumber, targetSet, deviceEntry, get-enabled, set-enabled, get-state, set-state, get-target, set-target, get-cookie, set-cookie, intr-devino2sysino, sourceCall, cookieCall, intr, vintr, raiseAt, raise}
@@ -37,6 +37,7 @@ use Rattle.rules.specs.Calls.{functionOf, negotiatedAsOne, admitted, perform, c
 use Rattle.rules.specs.Tables.{keepRules}
 use Rattle.rules.specs.Host.{HostOutcome, plantRule, ownerOf, longEnough, putBack, answeredBy, hostOutcomeOf, hostRule, hostEvent}
 use Rattle.promises.specs.Words.{Unchanged, StatisticsCall, Clears, cleared, Excepted}
+use Rattle.promises.specs.Machine.{did, machineOf}
 use Rattle.promises.specs.Promises.{RefusalChangesNothing, RefusedStatistics}
 
 -- an answer that is no refusal
@@ -120,8 +121,8 @@ module _ (plant : Plant) (r : Refusal) where
       still-then (leb 1 count && leb count 64) EINVAL _
       (still-then (eqb (dataAt % 64) 0 && eqb (list % 2) 0) EBADALIGN _
       (still-then (sight .valid dataAt 64 && sight .valid list (2 * count)) ENORADDR _
-      (still-then (not (someBelow count (λ i. eqb (listedCpu (sight .byte) list i) cpu))) EINVAL _
-      (still-then (allBelow count (λ i. ltb (listedCpu (sight .byte) list i) (plant .cpus))) ENOCPU _
+      (still-then (not (someBelow count (λ i. isCaller cpu (listedCpu (sight .byte) list i)))) EINVAL _
+      (still-then (not (someBelow count (λ i. isStranger (plant .cpus) (listedCpu (sight .byte) list i)))) ENOCPU _
       (sent-still n (sendAll plant (listedCpus (sight .byte) list count) (bytesFrom (sight .byte) dataAt 64) list) _ refl)))))
 
   -- TSB lists and memory
@@ -254,20 +255,24 @@ plant-still sight plant (Event.Raise d) r n = raise-still plant r (d .devhandle)
 plant-still sight plant (Event.Load l) r n = word-still plant r (sight .valid) (l .address) _ (still-granted plant r _ refl)
 plant-still sight plant (Event.Store s) r n = word-still plant r (sight .valid) (s .address) _ (still-granted plant r _ refl)
 
+-- a guest's outcome that leaves its record and writes nothing leaves the host
+pub puts-nothing : (tables : Tables) (memory : List ℕ) (g : ℕ) (o : Outcome) → o .plant ≡ plantAt tables g → o .writes ≡ [] → Unchanged tables memory (putBack tables memory g o)
+unfolding apply
+puts-nothing tables memory g o p w = rw (p, w) (ap (λ l. record { guests = tables .guests; guest = l }) (set-getD (tables .guest) g hollowGuest), refl)
+
 module _ (tables : Tables) (memory : List ℕ) (event : Event) (r : Refusal) (other : Excepted event r → ⊥) where
   -- a ruling that leaves the host if it answers r
   abbrev StillHost : Ruling HostOutcome → Type 0
   StillHost x = hostOutcomeOf tables memory x .answer ≡ Refused r → Unchanged tables memory (hostOutcomeOf tables memory x)
 
   by-owner : (w : Owner) → StillHost (answeredBy tables memory event w)
-  unfolding apply
   by-owner Owner.Nobody = λ e. (refl, refl)
   by-owner (Owner.Guest g) = go (ltb g (tables .guests)) refl
     where
       go : (t : Bool) → ltb g (tables .guests) ≡ t → StillHost (answeredBy tables memory event (Owner.Guest g))
       go true q = rw q (λ e.
           let s = plant-still (sightOf (extentsOf tables g) memory) (plantAt tables g) event r other e in
-          rw (s .0, s .1) (ap (λ l. record { guests = tables .guests; guest = l }) (set-getD (tables .guest) g hollowGuest), refl))
+          puts-nothing tables memory g (did (machineOf tables memory g) event) (s .0) (s .1))
       go false q = rw q (λ e. (refl, refl))
 
   by-door : (t u : Bool) → StillHost (t or-refuse BadTables then u or-refuse ShortMemory then answeredBy tables memory event (ownerOf tables event))

@@ -9,7 +9,7 @@ use Rattle.rules.specs.Real.{reach, valid}
 use Rattle.kept.proofs.Accepted.{Fresh, accepted-fresh, accepted-keeps}
 use Rattle.promises.specs.Words.{Passes, SameReal}
 use Rattle.promises.specs.Promises.{Demand-3}
-use Rattle.promises.proofs.Passing.{extents-kept}
+use Rattle.promises.proofs.Passing.{steady-after}
 use Rattle.promises.proofs.Alone.{two-hosts}
 
 -- the same real extents reach as far, wherever they lie on the host
@@ -43,7 +43,7 @@ demand-3 bytes bytes′ tables tables′ memory memory′ accepted enough accept
     record {
       answers = ends .0;
       guest = ends .1;
-      extents = rw (extents-kept events tables memory p g, extents-kept events′ tables′ memory′ p′ g) (same .extents);
+      extents = rw (steady-after events tables memory p .extents g, steady-after events′ tables′ memory′ p′ .extents g) (same .extents);
     }
   where
     p : Passes tables memory

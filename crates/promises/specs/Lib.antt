@@ -1,3 +1,4 @@
 pub mod Promises
 pub mod Words
 pub mod Machine
+pub mod Resent

@@ -1,30 +1,36 @@
 -- What is promised, as propositions: read this file first. The theorem that proves each is named in front of it, and stands in
--- proofs/. The words are those of Words.antt and Machine.antt beside this file, and of the rules; docs/PROMISES.md lists them all.
+-- proofs/. The words are those of Words.antt, Machine.antt and Resent.antt beside this file, and of the rules; docs/PROMISES.md lists them all.
 use mathlib.Core.Path.{_≡_}
-use mathlib.Core.Bool.{true, false}
+use mathlib.Core.Bool.{true, false, _&&_}
 use mathlib.Core.List.{List}
 use Prim.Native.Nat.{ℕ, _+_, _*_, _%_, _<_}
+use lib.Dec.{eqb}
 use lib.ListN.{length, replicate}
-use Rattle.rules.specs.declared.Answer.the-variants.{Refused}
+use Rattle.rules.specs.declared.Answer.the-variants.{Done, Refused}
 use Rattle.rules.specs.declared.Call.{Call}
 use Rattle.rules.specs.declared.Event.{Event}
+use Rattle.rules.specs.declared.Plant.{Plant}
 use Rattle.rules.specs.declared.QueueRecord.{QueueRecord}
 use Rattle.rules.specs.declared.Refusal.{Refusal}
+use Rattle.rules.specs.declared.Refusal.the-variants.{EINVAL, EBADALIGN, ENORADDR, EWOULDBLOCK}
 use Rattle.rules.specs.declared.Ring.{Ring}
 use Rattle.rules.specs.declared.Tables.{Tables}
 use Rattle.rules.specs.Limits.{guestLimit, queueLimit}
 use Rattle.rules.specs.Kept.{guestAt, plantAt, cpuAt, queueAt, extentsOf}
-use Rattle.rules.specs.Real.{valid, byteAt}
-use Rattle.rules.specs.Rulings.{refused, granted}
+use Rattle.rules.specs.Scan.{_is-from_to_}
+use Rattle.rules.specs.Real.{Sight, valid, byteAt}
+use Rattle.rules.specs.Rulings.{refused, granted, _or-refuse_then_, done}
+use Rattle.rules.specs.Mondo.{cpu-mondo-send}
 use Rattle.rules.specs.Image.{readImage, load}
 use Rattle.rules.specs.Tables.{keepRules}
-use Rattle.rules.specs.Host.{longEnough, hostRule, hostEvent}
+use Rattle.rules.specs.Host.{HostOutcome, longEnough, hostRule, hostEvent}
 use Rattle.rules.specs.Session.{output}
 use Rattle.memory.specs.Cells.{cell, owns}
 use Rattle.session.specs.Feeding.{atFirst}
 use Rattle.session.specs.Pieces.{inPieces, joinedUp, Roomy}
-use Rattle.promises.specs.Words.{Passes, belongs, tablesAfter, ownEvents, ownAnswers, Unchanged, Untouched, InSome, OneRun, SameReal, StatisticsCall, Clears, cleared, Excepted}
-use Rattle.promises.specs.Machine.{machineOf, guestAfter, answersAlone, machineAfter}
+use Rattle.promises.specs.Words.{Passes, belongs, tablesAfter, memoryAfter, ownEvents, ownAnswers, Unchanged, Untouched, InSome, OneRun, SameReal, StatisticsCall, Clears, cleared, Excepted}
+use Rattle.promises.specs.Machine.{Machine, machineOf, guestAfter, answersAlone, machineAfter}
+use Rattle.promises.specs.Resent.{MondoCall, AllMarked, ReadyAgain, GotInAll}
 
 -- The tables keep the rules.
 
@@ -156,6 +162,35 @@ EntriesNeverCross =
     → (c q : ℕ) → c < plantAt tables g .cpus → q < queueLimit
     → (ring : Ring) → queueAt (cpuAt (plantAt tables g) c) q ≡ QueueRecord.Set ring
     → (i : ℕ) → 64 * i < ring .size → OneRun (extentsOf tables g) (ring .base + 64 * i) 64
+
+-- Mondos whose list is sent again: "an entry that reads 0xffff is passed over".
+
+-- `all-marked`: "a list of nothing but 0xffff answers EOK and writes nothing". The three tests before the list is read still refuse.
+pub record AllMarkedSends : Type 0 where
+  pub rule : (sight : Sight) (plant : Plant) (c : Call) → AllMarked sight c
+      → cpu-mondo-send sight plant (c .cpu) (c .arg0) (c .arg1) (c .arg2)
+      ≡ ((c .arg0 is-from 1 to 64) or-refuse EINVAL then
+      (eqb (c .arg2 % 64) 0 && eqb (c .arg1 % 2) 0) or-refuse EBADALIGN then
+      (sight .valid (c .arg2) 64 && sight .valid (c .arg1) (2 * c .arg0)) or-refuse ENORADDR then
+      done plant)
+  -- so it leaves every record and every byte, whatever it answers
+  pub unchanged : (tables : Tables) (memory : List ℕ) (c : Call) → MondoCall c → AllMarked (machineOf tables memory (c .guest) .sight) c
+      → Unchanged tables memory (hostEvent tables memory (Event.Call c))
+
+-- `sent-again`: a send that was answered EWOULDBLOCK, then any events of any guests, then the same call once more. Where the second
+-- is ready, it answers EOK, and each cpu has got the data, by both, as often as it stood in the list at first.
+abbrev pub SentAgain : Type 0
+SentAgain =
+    (tables : Tables) (memory : List ℕ) (c : Call) (events : List Event) → Passes tables memory → MondoCall c
+    → hostEvent tables memory (Event.Call c) .answer ≡ Refused EWOULDBLOCK
+    → let first : Machine = machineOf tables memory (c .guest) in
+    let one : HostOutcome = hostEvent tables memory (Event.Call c) in
+    let sent : Machine = machineOf (one .tables) (one .memory) (c .guest) in
+    let second : Machine = guestAfter (one .tables) (one .memory) (c .guest) events in
+    let two : HostOutcome = hostEvent (tablesAfter (one .tables) (one .memory) events) (memoryAfter (one .tables) (one .memory) events) (Event.Call c) in
+    let resent : Machine = machineOf (two .tables) (two .memory) (c .guest) in
+    ReadyAgain c first sent second
+    → (two .answer ≡ Done) × ((cpu : ℕ) → cpu < first .plant .cpus → GotInAll c cpu first sent second resent)
 
 -- The session.
 
