@@ -41,6 +41,9 @@ const RECEIVERS: u64 = 4;
 const RING: u64 = 64;
 const ENTRY: u64 = 64;
 
+/// The send that is left and sent again, known by its data.
+pub const SENT_TWICE: &str = "call 0 0 80 42 4 0 240";
+
 pub fn kind(name: &str) -> Option<Kind> {
     let (layout, cycle): (_, fn(u64) -> String) = match name {
         "mix" => (PLAIN, mix),
@@ -112,19 +115,23 @@ fn raises(number: u64) -> String {
     text
 }
 
-/// Sends to four cpus until their rings are full, then a head write for each.
-/// The list is stored again before each send, since a send marks it.
+/// Sends to four cpus until their rings are full; the list is stored again
+/// before each, since a send marks it. Then one more for which two of them have
+/// room, and which is sent again when the others have it. Its entries stay, so
+/// the rings are full after a send less; in the first cycle they are not.
 fn mondos(number: u64) -> String {
-    let sends = RING - 1;
+    let store = "store 0 0 0001000200030004\n";
+    let sends = RING - 2;
     let mut text = String::new();
     for send in 0..sends {
-        text += "store 0 0 0001000200030004\n";
+        text += store;
         text += &format!("call 0 0 80 42 4 0 {:x}\n", 0x40 + ENTRY * (send % 8));
     }
-    for cpu in 1..=RECEIVERS {
-        text += &format!("head 0 {cpu} 3c {:x}\n", head_after((number + 1) * sends));
-    }
-    text
+    let head = head_after(number * (sends + 1) + sends);
+    text + &format!(
+        "head 0 1 3c {head:x}\nhead 0 2 3c {head:x}\n{store}{SENT_TWICE}
+head 0 3 3c {head:x}\nhead 0 4 3c {head:x}\n{SENT_TWICE}\n"
+    )
 }
 
 /// Where the ranges of a mix lie.

@@ -12,6 +12,7 @@ mod partition;
 mod queue_steps;
 mod random;
 mod refusal_steps;
+mod resend_steps;
 mod seam_steps;
 mod source_steps;
 
@@ -52,8 +53,9 @@ const EDGE_NUMBERS: [u64; 24] = [
 type Step = fn(&mut Generator);
 
 /// What happens on a sound partition, and how often.
-const STEPS: [(u64, Step); 20] = [
+const STEPS: [(u64, Step); 21] = [
     (7, Generator::mondo_step),
+    (5, Generator::resend_step),
     (14, Generator::head_step),
     (6, Generator::configure_step),
     (3, Generator::queue_information_step),
@@ -69,7 +71,7 @@ const STEPS: [(u64, Step); 20] = [
     (3, Generator::unknown_step),
     (2, Generator::any_call_step),
     (8, Generator::refusal_step),
-    (9, Generator::seam_step),
+    (12, Generator::seam_step),
     (1, Generator::upgrade_step),
     (1, Generator::long_ring_step),
     (5, Generator::malformed_step),
@@ -243,15 +245,19 @@ impl Generator {
         (guest, self.random.index_or_last(cpus))
     }
 
-    /// The same, rather with sources than without.
-    fn someone_with_sources(&mut self) -> (usize, usize) {
+    /// The same, rather of a guest that is as wanted.
+    fn someone_rather(&mut self, wanted: fn(&Guest) -> bool) -> (usize, usize) {
         let mut who = self.someone();
         for _ in 0..3 {
-            if self.guest(who.0).sources.is_empty() {
+            if !wanted(self.guest(who.0)) {
                 who = self.someone();
             }
         }
         who
+    }
+
+    fn someone_with_sources(&mut self) -> (usize, usize) {
+        self.someone_rather(|guest| !guest.sources.is_empty())
     }
 
     /// As asked for, but now and then no such guest.

@@ -8,8 +8,9 @@ use crate::tables::{Guest, HostOffset, RealAddress, Ring, ENTRY_SIZE};
 pub const CPU_MONDO: usize = 0;
 pub const DEVICE_MONDO: usize = 1;
 
-/// What a list entry becomes once its mondo is sent.
-const SENT: u16 = 0xffff;
+/// What a list entry becomes once its mondo is sent, so that a list that is
+/// sent again passes over it.
+pub const SENT: u16 = 0xffff;
 
 /// The most entries of a list.
 const LIST_LIMIT: usize = 64;
@@ -124,13 +125,12 @@ impl Caller<'_> {
     }
 
     fn accept_list(&self, cpus: &[u16]) -> Result<(), Status> {
-        if cpus.iter().any(|&cpu| usize::from(cpu) == self.cpuid) {
+        let others = cpus.iter().filter(|&&cpu| cpu != SENT);
+        let mut others = others.map(|&cpu| usize::from(cpu));
+        if others.clone().any(|cpu| cpu == self.cpuid) {
             return Err(Status::EINVAL);
         }
-        if cpus
-            .iter()
-            .any(|&cpu| usize::from(cpu) >= self.guest.cpus.len())
-        {
+        if others.any(|cpu| cpu >= self.guest.cpus.len()) {
             return Err(Status::ENOCPU);
         }
         Ok(())
@@ -143,10 +143,14 @@ impl Caller<'_> {
         }
     }
 
-    /// In list order, for each entry the data first and then the mark.
+    /// In list order, for each entry the data first and then the mark. Nothing
+    /// is written for an entry that was read as a mark, and it is not left.
     fn deliver(&mut self, list: RealAddress, cpus: &[u16], entry: &Entry) -> Outcome {
         let mut any_left = false;
         for (position, &cpu) in cpus.iter().enumerate() {
+            if cpu == SENT {
+                continue;
+            }
             if self
                 .guest
                 .append(usize::from(cpu), CPU_MONDO, entry, self.memory)

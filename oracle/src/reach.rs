@@ -3,6 +3,7 @@
 
 use crate::coverage::kind;
 use crate::model::{Event, Host};
+use crate::queues::SENT;
 use crate::session::{self, parse, Line};
 use crate::tables::{Guest, RealAddress};
 use std::collections::{BTreeMap, BTreeSet};
@@ -121,6 +122,7 @@ fn mondo_targets(guest: &Guest, memory: &[u8], count: u64, list: u64) -> Named {
     let bytes = content(guest, memory, list, count.saturating_mul(2)).unwrap_or_default();
     let entries = bytes.chunks_exact(2);
     let entries = entries.map(|e| u16::from_be_bytes([e[0], e[1]]));
+    let entries = entries.filter(|&entry| entry != SENT);
     entries.map(|cpu| ("target", usize::from(cpu))).collect()
 }
 

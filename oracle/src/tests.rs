@@ -5,13 +5,16 @@ mod coverage;
 mod draft;
 mod examples;
 mod readings;
+mod resent;
+mod resent_kinds;
 mod rules;
 mod seam_kinds;
 mod seams;
 mod sessions;
 mod text;
 
-use crate::session;
+use crate::model::{Event, Host};
+use crate::session::{self, parse, Line};
 
 /// Two guests with one page and one source each, from the paper's session.
 const IMAGE: &str =
@@ -47,6 +50,21 @@ fn check(script: &str) {
             *expected == answer || Some(*expected) == short,
             "{line}: {answer}, not {expected}"
         );
+    }
+}
+
+/// Hands the events of a session over one by one, each to be answered on the
+/// host. Left out are those that find too little memory: all are refused.
+fn each_event(text: &[u8], mut answer: impl FnMut(&mut Host, &Event)) {
+    let mut host = Host::new();
+    for line in text.split(|&byte| byte == b'\n') {
+        match parse(line) {
+            Some(Line::Image(image)) => drop(host.load_image(&image)),
+            Some(Line::Event(event)) if host.tables.host_end <= host.memory.len() as u64 => {
+                answer(&mut host, &event)
+            }
+            _ => (),
+        }
     }
 }
 

@@ -95,7 +95,7 @@ impl Generator {
     }
 
     /// The head moves on, or is tried behind the tail; then a look at the end.
-    fn pass_some(&mut self, who: (usize, usize)) {
+    pub(super) fn pass_some(&mut self, who: (usize, usize)) {
         let Some(ring) = self.guest(who.0).cpus[who.1].queues[0] else {
             return;
         };

@@ -214,8 +214,8 @@ impl Generator {
         }
         self.call(who, 0x42, &[count, list, data]);
         self.look_at_mondo(who.0, list, data);
-        // Once more, with the entries that were marked.
-        if self.random.one_in(8) {
+        // Once more, which passes over the entries that were marked.
+        if self.random.one_in(4) {
             self.call(who, 0x42, &[count, list, data]);
         }
     }
@@ -293,15 +293,22 @@ impl Generator {
             }
             _ => (),
         }
+        if self.random.one_in(4) {
+            self.mark_some(&mut entries);
+        }
+        self.write_entries(who.0, list, &entries);
+    }
+
+    pub(super) fn write_entries(&mut self, guest: usize, list: u64, entries: &[u16]) {
         let bytes: Vec<u8> = entries
             .iter()
             .flat_map(|entry| entry.to_be_bytes())
             .collect();
-        self.write(who.0, list, &bytes);
+        self.write(guest, list, &bytes);
     }
 
     /// Often the same cpu more than once.
-    fn other_cpus(&mut self, (guest, cpu): (usize, usize), count: u64) -> Vec<u16> {
+    pub(super) fn other_cpus(&mut self, (guest, cpu): (usize, usize), count: u64) -> Vec<u16> {
         let others = self.guest(guest).cpus.len() as u64 - 1;
         let same = self.random.one_in(4);
         let step = 1 + self.random.below(others);
@@ -317,12 +324,13 @@ impl Generator {
         entries
     }
 
-    fn no_cpu(&mut self, (guest, cpu): (usize, usize)) -> u16 {
+    pub(super) fn no_cpu(&mut self, (guest, cpu): (usize, usize)) -> u16 {
         let cpus = self.guest(guest).cpus.len() as u16;
         self.random.pick(&[
             cpus,
             8,
-            0xffff,
+            0xfffe,
+            0xff,
             0x100,
             cpu as u16 | 0x100,
             0x8000,
@@ -346,7 +354,7 @@ impl Generator {
     }
 }
 
-fn set(entries: &mut [u16], place: usize, value: u16) {
+pub(super) fn set(entries: &mut [u16], place: usize, value: u16) {
     if let Some(entry) = entries.get_mut(place) {
         *entry = value;
     }

@@ -58,6 +58,14 @@ impl Generator {
         (row.start, row.end - row.start)
     }
 
+    /// Where two extents of the guest touch, if any do.
+    pub(super) fn some_seam(&mut self, guest: usize) -> Option<u64> {
+        let mut rows = self.rows();
+        rows.retain(|row| row.guest == guest);
+        let seams: Vec<u64> = rows.into_iter().flat_map(|row| row.seams).collect();
+        seams.get(self.random.index(seams.len())).copied()
+    }
+
     /// Any cpu of the guest.
     fn someone_of(&mut self, guest: usize) -> (usize, usize) {
         (guest, self.random.index(self.guest(guest).cpus.len()))

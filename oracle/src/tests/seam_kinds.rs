@@ -1,10 +1,10 @@
 //! Which ranges over seams a generated session has: accepted ones on host pages
 //! in every order, and refused ones that leave their extents in every way.
 
+use super::each_event;
 use crate::coverage::generated;
 use crate::model::{Event, Host, Status};
 use crate::reach::{range, tsb_areas};
-use crate::session::{parse, Line};
 use crate::tables::{Guest, HostOffset, Piece, RealAddress, Ring};
 use std::collections::BTreeMap;
 
@@ -55,23 +55,12 @@ fn a_generated_session_has_every_kind_of_range_over_seams() {
 }
 
 fn kinds_of(text: &[u8]) -> Kinds {
-    let mut host = Host::new();
     let mut kinds = Kinds::new();
-    for line in text.split(|&byte| byte == b'\n') {
-        match parse(line) {
-            Some(Line::Image(image)) => drop(host.load_image(&image)),
-            Some(Line::Event(event)) => count(&mut host, &event, &mut kinds),
-            None => (),
-        }
-    }
+    each_event(text, |host, event| count(host, event, &mut kinds));
     kinds
 }
 
 fn count(host: &mut Host, event: &Event, kinds: &mut Kinds) {
-    // Memory that is not lent: no range is looked at.
-    if host.tables.host_end > host.memory.len() as u64 {
-        return;
-    }
     let ranges = named(host, event);
     let before = rings(host);
     let status = host.event(event).err();

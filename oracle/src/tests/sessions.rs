@@ -30,11 +30,23 @@ fn every_raise_and_mondo_of_a_bench_session_is_delivered() {
     for kind in ["mix", "raise", "mondo", "seams"] {
         for (line, answer) in bench_session(kind, 20_000) {
             let slip = line.contains("a8 200 5") || line.contains("14 3c 40 2");
-            assert!(slip || answer.starts_with('0'), "{line}: {answer}");
+            let refused = slip || line == bench::SENT_TWICE;
+            assert!(refused || answer.starts_with('0'), "{line}: {answer}");
             assert!(
                 !line.starts_with("raise") || answer == "0 2 0 0 0",
                 "{line}: {answer}"
             );
         }
+    }
+}
+
+#[test]
+fn a_list_that_is_left_in_a_bench_session_is_sent_again() {
+    let mut session = bench_session("mondo", 20_000);
+    session.retain(|(line, _)| line == bench::SENT_TWICE);
+    let answers: Vec<&str> = session.iter().map(|(_, answer)| answer.as_str()).collect();
+    assert!(answers.len() > 200);
+    for pair in answers.chunks_exact(2).skip(1) {
+        assert_eq!(pair, ["9 0 0 0 0", "0 0 0 0 0"]);
     }
 }
