@@ -5,7 +5,7 @@ use mathlib.Core.List.{List, [], _∷_}
 use Prim.Native.Nat.{ℕ, zero, suc, _≤_, _<_}
 use native.Mathlib.Omega.{arith}
 use lib.Dec.{leb, ltb}
-use lib.ListN.{getD, set}
+use lib.ListN.{length, getD, set}
 use borrow.Author.Tests.{le-ltb}
 use Rattle.rules.specs.Rulings.{if_then_else_}
 use Rattle.rules.specs.Tables.{listRight}
@@ -21,6 +21,12 @@ set-either P (y ∷ ys) zero zero x d f h = f refl
 set-either P (y ∷ ys) zero (suc j) x d f h = h
 set-either P (y ∷ ys) (suc i) zero x d f h = h
 set-either P (y ∷ ys) (suc i) (suc j) x d f h = set-either P ys i j x d (λ q. f (ap suc q)) h
+
+-- a place that holds something else than what stands past the end is one of the list
+pub placed : {A : Type 0} (l : List A) (i : ℕ) (d : A) → (getD l i d ≡ d → ⊥) → i < length l
+placed [] i d f = absurd (f refl)
+placed (x ∷ xs) zero d f = omega arith
+placed (x ∷ xs) (suc i) d f = let r : i < length xs = placed xs i d f in omega arith
 
 -- a place behind those that are there, in a list that is right
 pub list-past : (limit count : ℕ) (right blank : ℕ → Bool) → listRight limit count right blank ≡ true → (i : ℕ) → count ≤ i → i < limit → blank i ≡ true

@@ -2,11 +2,11 @@
 -- for another is nothing to it.
 use mathlib.Core.Path.{_≡_, refl, sym, ap, _∙_}
 use mathlib.Core.Bool.{Bool, true, false, false≢true}
-use mathlib.Core.List.{List, [], _∷_}
-use Prim.Native.Nat.{ℕ, zero, suc, _≤_, _<_}
+use mathlib.Core.List.{List}
+use Prim.Native.Nat.{ℕ, _≤_, _<_}
 use native.Mathlib.Omega.{arith}
 use lib.Dec.{ltb}
-use lib.ListN.{length, getD}
+use lib.ListN.{length}
 use lib.Seq.{getD-set-same}
 use borrow.Author.Tests.{ltb-true, lt-ltb}
 use Rattle.rules.specs.declared.Event.{Event}
@@ -24,6 +24,7 @@ use Rattle.memory.proofs.Checked.{guest-ready, guest-distinct, guests-strangers
 use Rattle.memory.proofs.Isolation.{sight-unmoved}
 use Rattle.memory.proofs.Sights.{own-sight}
 use Rattle.tables.proofs.SoundTables.{guests-few, pages-apart, extents-keep, extents-ascend}
+use Rattle.kept.proofs.Lists.{placed}
 use Rattle.kept.proofs.Settled.{settled, event-settled, few}
 use Rattle.promises.specs.Words.{belongs}
 use Rattle.promises.specs.Machine.{Machine, did, moved, machineOf}
@@ -43,11 +44,6 @@ module _ (tables : Tables) (memory : List ℕ) (event : Event) (keep : keepRules
     not-hollow : guestAt tables g ≡ hollowGuest → ⊥
     unfolding extentsKeep
     not-hollow q = false≢true (ap (λ (x : Guest). extentsKeep (x .extents)) (sym q) ∙ extents-keep tables keep g h)
-
-    placed : {A : Type 0} (l : List A) (i : ℕ) (d : A) → (getD l i d ≡ d → ⊥) → i < length l
-    placed [] i d f = absurd (f refl)
-    placed (x ∷ xs) zero d f = omega arith
-    placed (x ∷ xs) (suc i) d f = let r : i < length xs = placed xs i d f in omega arith
 
     own-machine : machineOf (withPlant tables g (done g .plant)) (apply (extentsOf tables g) memory (done g .writes)) g ≡ moved (machineOf tables memory g) event
     own-machine =

@@ -14,7 +14,7 @@ use Rattle.rules.specs.Queues.{nextTail, hasRoom}
 use Rattle.records.specs.Sound.{RingSound, RecordSound}
 use Rattle.memory.proofs.Numbers.{bytes-same}
 use Rattle.promises.specs.Resent.{roomIn, ringBase, ringSize, Got}
-use Rattle.promises.proofs.Rooms.{Place, place-is, room-below, room-less, place-shift}
+use Rattle.promises.proofs.Rooms.{Place, place-is, room-within, room-less, place-shift}
 
 -- the place k entries behind the tail, and what stands there
 abbrev pub placeOf : Ring → ℕ → ℕ
@@ -89,7 +89,7 @@ module _ (v : ℕ → ℕ → Bool) (ring : Ring) (sound : RingSound v ring) whe
     still : entryAt t ring 0 ≡ packet
     unfolding last
     still =
-        let o : entryAt t next last ≡ entryAt u next last = rest .others last (omega (arith, room-below v ring sound, more, sound .whole)) (omega (arith, sound .whole, sound .least)) in
+        let o : entryAt t next last ≡ entryAt u next last = rest .others last (omega (arith, room-within v ring sound, more, sound .whole)) (omega (arith, sound .whole, sound .least)) in
         rw first-place (rw round at o ∙ own)
 
     pub gets-more : GotIn ring after s t packet (suc n)
@@ -126,4 +126,4 @@ gets-nothing v (QueueRecord.Set ring) s packet sound = gets-none v ring sound s 
 -- in the promise's words
 pub gets-got : (v : ℕ → ℕ → Bool) (held after : QueueRecord) (s t : Sight) (packet : List ℕ) (n : ℕ) → RecordSound v held → Gets held after s t packet n → Got held after t packet n
 gets-got v QueueRecord.Unset after s t packet n sound g = g
-gets-got v (QueueRecord.Set ring) after s t packet n sound g = (g .moved, omega (arith, g .within, room-below v ring sound), g .got)
+gets-got v (QueueRecord.Set ring) after s t packet n sound g = (g .moved, omega (arith, g .within, room-within v ring sound), g .got)

@@ -2,9 +2,9 @@
 use mathlib.Core.Path.{_≡_, refl, sym, ap, _∙_}
 use mathlib.Core.Bool.{Bool, true, false, false≢true}
 use mathlib.Core.List.{List, [], _∷_}
-use Prim.Native.Nat.{ℕ, zero, suc, _+_, _<_}
+use Prim.Native.Nat.{ℕ, _+_, _<_}
 use native.Mathlib.Omega.{arith}
-use lib.ListN.{length, getD, set}
+use lib.ListN.{set}
 use lib.Seq.{set-getD, getD-set-same, getD-set-other}
 use Rattle.rules.specs.declared.Cpu.{Cpu}
 use Rattle.rules.specs.declared.Plant.{Plant}
@@ -14,15 +14,10 @@ use Rattle.rules.specs.declared.Ring.{Ring}
 use Rattle.rules.specs.Kept.{blankQueue, hollowCpu, cpuAt, queueAt, cpuWithQueue, withQueue, withTail}
 use Rattle.rules.specs.Queues.{nextTail, hasRoom, putIn, put}
 use Rattle.rules.specs.Mondo.{passedOver, Sent, sendOne}
+use Rattle.kept.proofs.Lists.{placed}
 use Rattle.records.specs.Sound.{RecordSound}
 use Rattle.promises.specs.Resent.{mondoRing, roomIn}
 use Rattle.promises.proofs.Rooms.{some-room}
-
--- a place that holds something else than what stands past the end is in the list
-placed : {A : Type 0} (l : List A) (i : ℕ) (d : A) → (getD l i d ≡ d → ⊥) → i < length l
-placed [] i d f = absurd (f refl)
-placed (x ∷ xs) zero d f = omega arith
-placed (x ∷ xs) (suc i) d f = let r : i < length xs = placed xs i d f in omega arith
 
 no-ring : (ring : Ring) → QueueRecord.Unset ≡ QueueRecord.Set ring → ⊥
 no-ring ring e = let z : _≡_ {A = ℕ} 0 1 = cc in omega arith

@@ -31,13 +31,13 @@ unfoldable pub times : ℕ → List ℕ → ℕ
 times cpu [] = 0
 times cpu (x ∷ xs) = (if eqb x cpu then 1 else 0) + times cpu xs
 
--- a cpu's 0x3c ring, and how many entries more it takes: of n it "holds n-1"
+-- a cpu's 0x3c ring, and how many entries more it takes: of n it "holds n-1", and it has those from head to tail
 abbrev pub mondoRing : Plant → ℕ → QueueRecord
 mondoRing plant cpu = queueAt (cpuAt plant cpu) (indexOf 0x3c)
 
 abbrev pub roomIn : QueueRecord → ℕ
 roomIn QueueRecord.Unset = 0
-roomIn (QueueRecord.Set ring) = (ring .size - 64 - forward ring (ring .tail)) / 64
+roomIn (QueueRecord.Set ring) = ring .size / 64 - 1 - forward ring (ring .tail) / 64
 
 -- no address is one of the n from a on and one of the k from b on
 abbrev pub Apart : ℕ → ℕ → ℕ → ℕ → Type 0
