@@ -21,9 +21,11 @@ listedCpus byte list (suc k) = listedCpus byte list k ++ (listedCpu byte list k 
 abbrev pub passedOver : ℕ → Bool
 passedOver listed = eqb listed 0xffff
 
+-- "any entry equal to the caller", of the others
 abbrev pub isCaller : ℕ → ℕ → Bool
 isCaller cpu listed = not (passedOver listed) && eqb listed cpu
 
+-- "any entry that is no cpuid of the guest", of the others: its cpuids are those below the number of its cpus
 abbrev pub isStranger : ℕ → ℕ → Bool
 isStranger cpus listed = not (passedOver listed) && leb cpus listed
 
