@@ -168,10 +168,11 @@ no-versions : versionsRight noVersions ≡ true
 unfolding computing
 no-versions = refl
 
-source-right : (plant : Plant) (bytes : List ℕ) (at : ℕ) → sourceRight plant (readSource bytes at) ≡ true
+-- its target is cpu 0: right only because a guest has a cpu
+source-right : (plant : Plant) (bytes : List ℕ) (at : ℕ) → 1 ≤ plant .cpus → sourceRight plant (readSource bytes at) ≡ true
 unfolding sourceRight cookieRight enabledRight
-source-right plant bytes at =
-    rw (lt-ltb (fieldAt bytes at devhandleWidth) devhandles (field-lt bytes at devhandleWidth), lt-ltb (fieldAt bytes (at + devhandleWidth) devinoWidth) devinos (field-lt bytes (at + devhandleWidth) devinoWidth))
+source-right plant bytes at h =
+    rw (lt-ltb 0 (plant .cpus) h, lt-ltb (fieldAt bytes at devhandleWidth) devhandles (field-lt bytes at devhandleWidth), lt-ltb (fieldAt bytes (at + devhandleWidth) devinoWidth) devinos (field-lt bytes (at + devhandleWidth) devinoWidth))
 
 module _ (v : ℕ → ℕ → Bool) (g : Guest) (f : Fresh g) where
   abbrev p : Plant
@@ -190,7 +191,7 @@ module _ (v : ℕ → ℕ → Bool) (g : Guest) (f : Fresh g) where
   sources-right : listRight sourceLimit (p .sources) (λ i. sourceRight p (sourceAt p i)) (λ i. sourceBlank (sourceAt p i)) ≡ true
   sources-right =
       list-right sourceLimit (p .sources) (λ i. sourceRight p (sourceAt p i)) (λ i. sourceBlank (sourceAt p i)) (f .sources-most)
-      (λ i h. ap (sourceRight p) (f .source-read i h .2) ∙ source-right p (f .source-read i h .0) (f .source-read i h .1))
+      (λ i h. ap (sourceRight p) (f .source-read i h .2) ∙ source-right p (f .source-read i h .0) (f .source-read i h .1) (f .cpus-least))
       (λ i h l. ap sourceBlank (f .source-past i h) ∙ source-blank)
 
   versions-right : versionsRight (p .versions) ≡ true

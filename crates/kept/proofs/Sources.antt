@@ -13,13 +13,12 @@ use Rattle.rules.specs.declared.Answer.the-variants.{One}
 use Rattle.rules.specs.declared.CookieCall.{CookieCall}
 use Rattle.rules.specs.declared.Source.{Source}
 use Rattle.rules.specs.declared.SourceCall.{SourceCall}
-use Rattle.rules.specs.declared.Target.{Target}
 use Rattle.rules.specs.Limits.{devhandles, devinos}
 use Rattle.rules.specs.Kept.{sourceAt, withSource, withQueue, withEnabled, withState, withTarget, withCookie}
 use Rattle.rules.specs.Rulings.{Ruling, granted, Outcome, says, done, _or-refuse_then_, if_then_else_}
 use Rattle.rules.specs.Queues.{Put, put}
-use Rattle.rules.specs.Sources.{sysinoOf, found, get-enabled, set-enabled, get-state, set-state, get-target, set-target, get-cookie, set-cookie, intr-devino2sysino, sourceCall, cookieCall, intr, vintr, targetNumber, targetSet, deviceEntry, raiseAt, raise}
-use Rattle.rules.specs.Tables.{targetRight, cookieRight, enabledRight, sourceRight, plantKeeps}
+use Rattle.rules.specs.Sources.{sysinoOf, found, get-enabled, set-enabled, get-state, set-state, get-target, set-target, get-cookie, set-cookie, intr-devino2sysino, sourceCall, cookieCall, intr, vintr, deviceEntry, raiseAt, raise}
+use Rattle.rules.specs.Tables.{cookieRight, enabledRight, sourceRight, plantKeeps}
 use Rattle.rules.proofs.Scan.{first-below}
 use Rattle.rules.proofs.Tests.{and-left, and-right}
 use Rattle.kept.proofs.Plants.{Kept, unchanged, further, source-there, source-replaced}
@@ -38,9 +37,9 @@ module _ (plant : Plant) (s : Source) where
   cookiesPart = cookieRight (plant .versions .interrupt) s && enabledRight (plant .versions .interrupt) s
 
   abbrev pub settingsPart : Bool
-  settingsPart = targetRight (plant .cpus) (s .target) && cookiesPart
+  settingsPart = ltb (s .target) (plant .cpus) && cookiesPart
 
-  pub made : namePart ≡ true → leb (s .enabled) 1 ≡ true → leb (s .state) 2 ≡ true → targetRight (plant .cpus) (s .target) ≡ true → cookieRight (plant .versions .interrupt) s ≡ true → enabledRight (plant .versions .interrupt) s ≡ true → sourceRight plant s ≡ true
+  pub made : namePart ≡ true → leb (s .enabled) 1 ≡ true → leb (s .state) 2 ≡ true → ltb (s .target) (plant .cpus) ≡ true → cookieRight (plant .versions .interrupt) s ≡ true → enabledRight (plant .versions .interrupt) s ≡ true → sourceRight plant s ≡ true
   unfolding sourceRight
   made a b c d f g = rw (a, b, c, d, f, g)
 
@@ -63,14 +62,14 @@ module _ (plant : Plant) (s : Source) where
     pub state-part : leb (s .state) 2 ≡ true
     state-part = and-right (leb (s .enabled) 1) (leb (s .state) 2) states-part
 
-    pub target-part : targetRight (plant .cpus) (s .target) ≡ true
-    target-part = and-left (targetRight (plant .cpus) (s .target)) cookiesPart settings-part
+    pub target-part : ltb (s .target) (plant .cpus) ≡ true
+    target-part = and-left (ltb (s .target) (plant .cpus)) cookiesPart settings-part
 
     pub cookie-part : cookieRight (plant .versions .interrupt) s ≡ true
-    cookie-part = and-left (cookieRight (plant .versions .interrupt) s) (enabledRight (plant .versions .interrupt) s) (and-right (targetRight (plant .cpus) (s .target)) cookiesPart settings-part)
+    cookie-part = and-left (cookieRight (plant .versions .interrupt) s) (enabledRight (plant .versions .interrupt) s) (and-right (ltb (s .target) (plant .cpus)) cookiesPart settings-part)
 
     pub allowed-part : enabledRight (plant .versions .interrupt) s ≡ true
-    allowed-part = and-right (cookieRight (plant .versions .interrupt) s) (enabledRight (plant .versions .interrupt) s) (and-right (targetRight (plant .cpus) (s .target)) cookiesPart settings-part)
+    allowed-part = and-right (cookieRight (plant .versions .interrupt) s) (enabledRight (plant .versions .interrupt) s) (and-right (ltb (s .target) (plant .cpus)) cookiesPart settings-part)
 
 module _ (v : ℕ → ℕ → Bool) (plant : Plant) (e : plantKeeps v plant ≡ true) (i : ℕ) (there : i < plant .sources) where
   abbrev s : Source
@@ -97,9 +96,9 @@ module _ (v : ℕ → ℕ → Bool) (plant : Plant) (e : plantKeeps v plant ≡ 
   pub set-target-fine : (value : ℕ) → Fine v plant (set-target plant i value)
   unfolding set-target cookieRight enabledRight
   set-target-fine value =
-      fine-then v plant e (ltb value (plant .cpus)) ENOCPU (done (withSource plant i (withTarget s (Target.Cpu value)))) (λ h.
-      stored (withTarget s (Target.Cpu value))
-      (made plant (withTarget s (Target.Cpu value)) (name-part plant s right) (enabled-part plant s right) (state-part plant s right) h (cookie-part plant s right) (allowed-part plant s right))
+      fine-then v plant e (ltb value (plant .cpus)) ENOCPU (done (withSource plant i (withTarget s value))) (λ h.
+      stored (withTarget s value)
+      (made plant (withTarget s value) (name-part plant s right) (enabled-part plant s right) (state-part plant s right) h (cookie-part plant s right) (allowed-part plant s right))
       refl refl)
 
   -- a source may be enabled once group 2 is negotiated, under 2.0 with a cookie
@@ -155,26 +154,22 @@ module _ (v : ℕ → ℕ → Bool) (plant : Plant) (e : plantKeeps v plant ≡ 
       high z h = rw z at h
 
   -- the cpu of a target is there
-  target-there : targetSet (s .target) ≡ true → targetNumber (s .target) < plant .cpus
-  target-there h = go (s .target) h (target-part plant s right)
-    where
-      go : (t : Target) → targetSet t ≡ true → targetRight (plant .cpus) t ≡ true → targetNumber t < plant .cpus
-      go Target.Unset h r = absurd (true≢false (sym h))
-      go (Target.Cpu c) h r = ltb-true c (plant .cpus) r
+  target-there : s .target < plant .cpus
+  target-there = ltb-true (s .target) (plant .cpus) (target-part plant s right)
 
 -- a raise
 module _ (v : ℕ → ℕ → Bool) (plant : Plant) (e : plantKeeps v plant ≡ true) (i : ℕ) (there : i < plant .sources) where
   abbrev entry : Put
-  entry = put plant (targetNumber (sourceAt plant i .target)) 0x3d (deviceEntry plant i)
+  entry = put plant (sourceAt plant i .target) 0x3d (deviceEntry plant i)
 
   one-kept : Kept v plant (withSource plant i (withState (sourceAt plant i) 1))
   one-kept = state-kept v plant e i there 1 refl
 
   -- the entry is put, and then the state
-  delivered-kept : targetNumber (sourceAt plant i .target) < plant .cpus → Kept v plant (withSource (entry .plant) i (withState (sourceAt plant i) 2))
+  delivered-kept : Kept v plant (withSource (entry .plant) i (withState (sourceAt plant i) 2))
   unfolding put withQueue
-  delivered-kept h =
-      let k : Kept v plant (entry .plant) = put-kept v plant e (targetNumber (sourceAt plant i .target)) h 0x3d (deviceEntry plant i) (omega arith) in
+  delivered-kept =
+      let k : Kept v plant (entry .plant) = put-kept v plant e (sourceAt plant i .target) (target-there v plant e i there) 0x3d (deviceEntry plant i) (omega arith) in
       further v plant (entry .plant) (withSource (entry .plant) i (withState (sourceAt plant i) 2)) k (state-kept v (entry .plant) (k .keeps) i there 2 refl)
 
   raise-at-fine : Fine v plant (raiseAt plant i)
@@ -183,14 +178,11 @@ module _ (v : ℕ → ℕ → Bool) (plant : Plant) (e : plantKeeps v plant ≡ 
       fine-if v plant (eqb (sourceAt plant i .state) 2) (says (One 2) plant) (if goes then delivered else received)
       (λ _. unchanged v plant e)
       (λ _. fine-if v plant goes delivered received
-      (λ h. delivered-kept (target-there v plant e i there (and-left set (entry .room) (and-right (eqb (sourceAt plant i .enabled) 1) (set && entry .room) h))))
+      (λ _. delivered-kept)
       (λ _. one-kept))
     where
-      set : Bool
-      set = targetSet (sourceAt plant i .target)
-
       goes : Bool
-      goes = eqb (sourceAt plant i .enabled) 1 && (set && entry .room)
+      goes = eqb (sourceAt plant i .enabled) 1 && entry .room
 
       delivered : Ruling Outcome
       delivered = granted (record { answer = One 2; plant = withSource (entry .plant) i (withState (sourceAt plant i) 2); writes = entry .writes })

@@ -17,7 +17,7 @@ use Rattle.rules.specs.Limits.{sourceLimit}
 use Rattle.rules.specs.Kept.{sourceAt, blankSource, withVersions}
 use Rattle.rules.specs.Rulings.{Ruling, Outcome, says, _or-refuse_then_, if_then_else_}
 use Rattle.rules.specs.Versions.{groupOf, known, newest, majorOf, withMajor, disabled, allDisabled, negotiated, set-version}
-use Rattle.rules.specs.Tables.{listRight, cookieRight, enabledRight, sourceRight, sourceBlank, targetBlank, versionsRight, plantKeeps}
+use Rattle.rules.specs.Tables.{listRight, cookieRight, enabledRight, sourceRight, sourceBlank, versionsRight, plantKeeps}
 use Rattle.rules.proofs.Tests.{and-left, and-right}
 use Rattle.kept.proofs.Accepted.{list-right}
 use Rattle.records.proofs.SoundLaws.{plant-sources}
@@ -51,7 +51,7 @@ module _ (v : ℕ → ℕ → Bool) (plant : Plant) (e : plantKeeps v plant ≡ 
   unfolding sourceBlank
   disabled-blank s b =
       let name : Bool = eqb (s .devhandle) 0 && (eqb (s .devino) 0 && not (s .cookies)) in
-      let rest : Bool = targetBlank (s .target) && eqb (s .cookie) 0 in
+      let rest : Bool = eqb (s .target) 0 && eqb (s .cookie) 0 in
       let all : Bool = (eqb (s .enabled) 0 && eqb (s .state) 0) && rest in
       rw (and-left name all b, and-right (eqb (s .enabled) 0) (eqb (s .state) 0) (and-left (eqb (s .enabled) 0 && eqb (s .state) 0) rest (and-right name all b)))
       (and-right (eqb (s .enabled) 0 && eqb (s .state) 0) rest (and-right name all b))

@@ -9,12 +9,15 @@ pub mod DeterminedText
 pub mod Elsewhere
 pub mod Examples
 pub mod Extents
+pub mod Granting
 pub mod Isolation
 pub mod Kept
+pub mod LoadedTargets
 pub mod MondoCalls
 pub mod NotVacuous
 pub mod Passing
 pub mod Pieces
+pub mod Received
 pub mod Refusals
 pub mod Resent
 pub mod ResentWorked
@@ -29,6 +32,8 @@ pub mod SendLists
 pub mod SendState
 pub mod SendSteps
 pub mod StoredWord
+pub mod Targets
+pub mod TargetsWorked
 pub mod TwoHosts
 pub mod WrittenBytes
 pub mod WroteLaws

@@ -1,10 +1,10 @@
 -- Promise: a refusal changes nothing, for every input. The paper says otherwise of EWOULDBLOCK, and of EBADALIGN and ENORADDR
 -- where 0x102 answers them, and of no other.
-use mathlib.Core.Path.{_≡_, refl, sym, ap, _∙_}
-use mathlib.Core.Bool.{Bool, true, false, _&&_, _||_, not, true≢false}
+use mathlib.Core.Path.{_≡_, refl, ap, _∙_}
+use mathlib.Core.Bool.{Bool, true, false, _&&_, _||_, not}
 use mathlib.Core.List.{List, []}
 use mathlib.Core.Logic.{inl, inr, ⊎-elim}
-use Prim.Native.Nat.{ℕ, _-_, _*_, _%_}
+use Prim.Native.Nat.{ℕ, _*_, _%_}
 use lib.Dec.{leb, ltb, eqb}
 use lib.ListN.{length}
 use lib.Seq.{set-getD}
@@ -28,232 +28,128 @@ use Rattle.rules.specs.Real.{Sight, sightOf, bytesFrom, apply}
 use Rattle.rules.specs.Statuses.{statusOf}
 use Rattle.rules.specs.Rulings.{Ruling, refused, granted, Outcome, outcomeOf, _or-refuse_then_, _grants_, if_then_else_}
 use Rattle.rules.specs.Versions.{groupOf, known, majorOf, newest, set-version, get-version}
-use Rattle.rules.specs.Queues.{isQueue, forward, newRing, put, ringOf, baseAndSize, cpu-qconf, cpu-qinfo, cpu-myid, write-head}
-use Rattle.rules.specs.Mondo.{listedCpu, listedCpus, isCaller, isStranger, Sent, sendAll, sentAs, cpu-mondo-send}
+use Rattle.rules.specs.Queues.{isQueue, indexOf, forward, newRing, put, ringOf, baseAndSize, cpu-qconf, cpu-qinfo, cpu-myid, write-head}
+use Rattle.rules.specs.Mondo.{listedCpu, listedCpus, isCaller, isStranger, sendAll, cpu-mondo-send}
 use Rattle.rules.specs.Tsb.{newTsbs, mmu-tsb-ctx0, mmu-tsb-ctxnon0}
-use Rattle.rules.specs.Memory.{wholePages, mem-scrub, mem-sync, wholeWord, store-word, load-word, newStatistics, setOrClear, mmustat-conf, mmustat-info}
-use Rattle.rules.specs.Sources.{found, sysinoOf, targetNumber, targetSet, deviceEntry, get-enabled, set-enabled, get-state, set-state, get-target, set-target, get-cookie, set-cookie, intr-devino2sysino, sourceCall, cookieCall, intr, vintr, raiseAt, raise}
-use Rattle.rules.specs.Calls.{functionOf, negotiatedAsOne, admitted, perform, call}
+use Rattle.rules.specs.Memory.{mem-scrub, mem-sync, store-word, load-word, newStatistics, setOrClear, mmustat-conf, mmustat-info}
+use Rattle.rules.specs.Sources.{found, sysinoOf, deviceEntry, get-enabled, set-enabled, get-state, set-state, get-target, set-target, get-cookie, set-cookie, intr-devino2sysino, sourceCall, cookieCall, intr, vintr, raiseAt, raise}
+use Rattle.rules.specs.Calls.{functionOf, admitted, perform, call}
 use Rattle.rules.specs.Tables.{keepRules}
 use Rattle.rules.specs.Host.{HostOutcome, plantRule, ownerOf, longEnough, putBack, answeredBy, hostOutcomeOf, hostRule, hostEvent}
 use Rattle.promises.specs.Words.{Unchanged, StatisticsCall, Clears, cleared, Excepted}
 use Rattle.promises.specs.Machine.{did, machineOf}
 use Rattle.promises.specs.Promises.{RefusalChangesNothing, RefusedStatistics}
+use Rattle.promises.proofs.Granting.{Granting, by-then, by-if, by-value, by-pages, by-word, by-call}
 
--- an answer that is no refusal
-abbrev accepting : Answer → Bool
-accepting Done = true
-accepting (One v) = true
-accepting (Two v w) = true
-accepting (Refused r) = false
+-- No rule grants an outcome that answers a refusal r which is not excepted: what answers r is a ruling that refuses.
+module _ (r : Refusal) where
+  -- an answer other than r
+  abbrev Other : Answer → Type 0
+  Other Done = Unit {0}
+  Other (One v) = Unit {0}
+  Other (Two v w) = Unit {0}
+  Other (Refused s) = r ≡ s → ⊥
 
-module _ (plant : Plant) (r : Refusal) where
-  -- a ruling that leaves the plant's record and memory if it answers r
-  abbrev pub Still : Ruling Outcome → Type 0
-  Still x = outcomeOf plant x .answer ≡ Refused r → (outcomeOf plant x .plant ≡ plant) × (outcomeOf plant x .writes ≡ [])
+  other-told : (a : Answer) → Other a → a ≡ Refused r → ⊥
+  other-told a h e = (rw e at h) refl
 
-  still-refused : (s : Refusal) → Still (refused s)
-  still-refused s e = (refl, refl)
+  abbrev Apart : Outcome → Type 0
+  Apart o = Other (o .answer)
 
-  still-granted : (o : Outcome) → accepting (o .answer) ≡ true → Still (granted o)
-  still-granted o a e = absurd (true≢false (sym a ∙ ap accepting e))
+  -- a ruling that grants no such answer leaves the plant's record and memory if it answers r
+  leaves : (plant : Plant) (x : Ruling Outcome) → Granting Apart x → outcomeOf plant x .answer ≡ Refused r → (outcomeOf plant x .plant ≡ plant) × (outcomeOf plant x .writes ≡ [])
+  leaves plant (refused s) h e = (refl, refl)
+  leaves plant (granted o) h e = absurd (other-told (o .answer) h e)
 
-  still-then : (t : Bool) (s : Refusal) (x : Ruling Outcome) → Still x → Still (t or-refuse s then x)
-  still-then true s x k = k
-  still-then false s x k = still-refused s
+  base-apart : (q : QueueRecord) → Other (baseAndSize q)
+  base-apart QueueRecord.Unset = tt
+  base-apart (QueueRecord.Set ring) = tt
 
-  still-grants : {A : Type 0} (m : Ruling A) (k : A → Ruling Outcome) → ((a : A) → Still (k a)) → Still (m grants k)
-  still-grants (refused q) k s = still-refused q
-  still-grants (granted a) k s = s a
+  -- what is left of a mondo send is told by EWOULDBLOCK
+  sent-apart : (r ≡ EWOULDBLOCK → ⊥) → (t : Bool) → Other (if t then Done else Refused EWOULDBLOCK)
+  sent-apart n true = tt
+  sent-apart n false = n
 
-  still-if : (t : Bool) (x y : Ruling Outcome) → Still x → Still y → Still (if t then x else y)
-  still-if true x y s u = s
-  still-if false x y s u = u
-
-  -- versions
-  set-version-still : (group major : ℕ) → Still (set-version plant group major)
-  unfolding set-version
-  set-version-still group major =
-      still-then (known (groupOf group)) EINVAL _
-      (still-then (leb 1 major && leb major (newest (groupOf group))) ENOTSUPPORTED _
-      (still-then (leb (majorOf (plant .versions) (groupOf group)) major) ENOTSUPPORTED _ (still-granted _ refl)))
-
-  get-version-still : (group : ℕ) → Still (get-version plant group)
-  unfolding get-version
-  get-version-still group =
-      still-then (known (groupOf group)) EINVAL _
-      (still-then (leb 1 (majorOf (plant .versions) (groupOf group))) EINVAL _ (still-granted _ refl))
-
-  -- queues
-  qconf-still : (v : ℕ → ℕ → Bool) (cpu queue base n : ℕ) → Still (cpu-qconf v plant cpu queue base n)
-  unfolding cpu-qconf
-  qconf-still v cpu queue base n =
-      still-then (isQueue queue) EINVAL _
-      (still-if (eqb n 0) _ _ (still-granted _ refl) (still-grants (newRing v base n) _ (λ ring. still-granted _ refl)))
-
-  base-accepting : (q : QueueRecord) → accepting (baseAndSize q) ≡ true
-  base-accepting QueueRecord.Unset = refl
-  base-accepting (QueueRecord.Set ring) = refl
-
-  qinfo-still : (cpu queue : ℕ) → Still (cpu-qinfo plant cpu queue)
-  unfolding cpu-qinfo
-  qinfo-still cpu queue = still-then (isQueue queue) EINVAL _ (still-granted _ (base-accepting (queueAt (cpuAt plant cpu) (queue - 0x3c))))
-
-  head-still : (cpu queue value : ℕ) → Still (write-head plant cpu queue value)
-  unfolding write-head
-  head-still cpu queue value =
-      still-then (isQueue queue) EINVAL _
-      (still-grants (ringOf (queueAt (cpuAt plant cpu) (queue - 0x3c))) _ (λ ring.
-      still-then (eqb (value % 64) 0) EBADALIGN _ (still-then (ltb value (ring .size) && leb (forward ring value) (forward ring (ring .tail))) EINVAL _ (still-granted _ refl))))
-
-  -- the refusal that an answer tells
-  told : (s : Refusal) → Refused s ≡ Refused r → r ≡ s
-  told s e = cc
-
-  -- a mondo send: what is left is told by EWOULDBLOCK
-  sent-still : (r ≡ EWOULDBLOCK → ⊥) → (s : Sent) (t : Bool) → s .all ≡ t → Still (granted (sentAs s))
-  sent-still n s true q e = absurd (true≢false (ap accepting (rw q at e)))
-  sent-still n s false q e = absurd (n (told EWOULDBLOCK (rw q at e)))
-
-  mondo-still : (r ≡ EWOULDBLOCK → ⊥) → (sight : Sight) (cpu count list dataAt : ℕ) → Still (cpu-mondo-send sight plant cpu count list dataAt)
-  unfolding cpu-mondo-send
-  mondo-still n sight cpu count list dataAt =
-      still-then (leb 1 count && leb count 64) EINVAL _
-      (still-then (eqb (dataAt % 64) 0 && eqb (list % 2) 0) EBADALIGN _
-      (still-then (sight .valid dataAt 64 && sight .valid list (2 * count)) ENORADDR _
-      (still-then (not (someBelow count (λ i. isCaller cpu (listedCpu (sight .byte) list i)))) EINVAL _
-      (still-then (not (someBelow count (λ i. isStranger (plant .cpus) (listedCpu (sight .byte) list i)))) ENOCPU _
-      (sent-still n (sendAll plant (listedCpus (sight .byte) list count) (bytesFrom (sight .byte) dataAt 64) list) _ refl)))))
-
-  -- TSB lists and memory
-  ctx0-still : (sight : Sight) (cpu ntsb pointer : ℕ) → Still (mmu-tsb-ctx0 sight plant cpu ntsb pointer)
-  unfolding mmu-tsb-ctx0
-  ctx0-still sight cpu ntsb pointer = still-grants (newTsbs sight ntsb pointer) _ (λ tsbs. still-granted _ refl)
-
-  ctxnon0-still : (sight : Sight) (cpu ntsb pointer : ℕ) → Still (mmu-tsb-ctxnon0 sight plant cpu ntsb pointer)
-  unfolding mmu-tsb-ctxnon0
-  ctxnon0-still sight cpu ntsb pointer = still-grants (newTsbs sight ntsb pointer) _ (λ tsbs. still-granted _ refl)
-
-  pages-still : (v : ℕ → ℕ → Bool) (address len : ℕ) (x : Ruling Outcome) → Still x → Still (wholePages v address len x)
-  unfolding wholePages
-  pages-still v address len x s = still-then (not (eqb len 0)) EINVAL _ (still-then (eqb (address % 8192) 0 && eqb (len % 8192) 0) EBADALIGN _ (still-then (v address len) ENORADDR x s))
-
-  word-still : (v : ℕ → ℕ → Bool) (address : ℕ) (x : Ruling Outcome) → Still x → Still (wholeWord v address x)
-  unfolding wholeWord
-  word-still v address x s = still-then (eqb (address % 8) 0) EBADALIGN _ (still-then (v address 8) ENORADDR x s)
-
-  -- 0x102: each refusal of its address clears
-  conf-still : (Clears r → ⊥) → (v : ℕ → ℕ → Bool) (cpu address : ℕ) → Still (mmustat-conf v plant cpu address)
-  unfolding mmustat-conf newStatistics
-  conf-still n v cpu address = go (eqb address 0) (eqb (address % 64) 0) (v address 512)
-    where
-      go : (t u w : Bool) → Still (setOrClear plant cpu (if t then granted 0 else u or-refuse EBADALIGN then w or-refuse ENORADDR then granted address))
-      go true u w = still-granted _ refl
-      go false true true = still-granted _ refl
-      go false true false = λ e. absurd (n (inr (told ENORADDR e)))
-      go false false w = λ e. absurd (n (inl (told EBADALIGN e)))
-
-  -- sources
-  set-enabled-still : (i value : ℕ) → Still (set-enabled plant i value)
-  unfolding set-enabled
-  set-enabled-still i value = still-then (leb value 1) EINVAL _ (still-then (not (eqb value 1 && (eqb (plant .versions .interrupt) 2 && eqb (sourceAt plant i .cookie) 0))) EINVAL _ (still-granted _ refl))
-
-  set-state-still : (i value : ℕ) → Still (set-state plant i value)
-  unfolding set-state
-  set-state-still i value = still-then (leb value 2) EINVAL _ (still-granted _ refl)
-
-  set-target-still : (i value : ℕ) → Still (set-target plant i value)
-  unfolding set-target
-  set-target-still i value = still-then (ltb value (plant .cpus)) ENOCPU _ (still-granted _ refl)
-
-  set-cookie-still : (i value : ℕ) → Still (set-cookie plant i value)
-  unfolding set-cookie
-  set-cookie-still i value = still-then (eqb value 0 || ltb 2047 value) EINVAL _ (still-if (eqb value 0) _ _ (still-granted _ refl) (still-granted _ refl))
-
-  devino-still : (devhandle devino : ℕ) → Still (intr-devino2sysino plant devhandle devino)
-  unfolding intr-devino2sysino
-  devino-still devhandle devino = still-grants (found EINVAL (sysinoOf plant devhandle devino)) _ (λ i. still-granted _ refl)
-
-  source-still : (i value : ℕ) (call : SourceCall) → Still (sourceCall plant i value call)
-  unfolding sourceCall get-enabled get-state get-target
-  source-still i value SourceCall.GetEnabled = still-granted _ refl
-  source-still i value SourceCall.SetEnabled = set-enabled-still i value
-  source-still i value SourceCall.GetState = still-granted _ refl
-  source-still i value SourceCall.SetState = set-state-still i value
-  source-still i value SourceCall.GetTarget = still-granted _ refl
-  source-still i value SourceCall.SetTarget = set-target-still i value
-
-  cookie-still : (i value : ℕ) (call : CookieCall) → Still (cookieCall plant i value call)
-  unfolding cookieCall get-cookie
-  cookie-still i value CookieCall.GetCookie = still-granted _ refl
-  cookie-still i value CookieCall.SetCookie = set-cookie-still i value
-  cookie-still i value (CookieCall.Source call) = source-still i value call
-
-  intr-still : (call : SourceCall) (sysino value : ℕ) → Still (intr plant call sysino value)
-  unfolding intr
-  intr-still call sysino value = still-then (ltb sysino (plant .sources)) EINVAL _ (source-still sysino value call)
-
-  vintr-still : (call : CookieCall) (devhandle devino value : ℕ) → Still (vintr plant call devhandle devino value)
-  unfolding vintr
-  vintr-still call devhandle devino value =
-      still-grants (found EINVAL (sysinoOf plant devhandle devino)) _ (λ i.
-      still-then (sourceAt plant i .cookies) ENOTSUPPORTED _ (cookie-still i value call))
-
-  -- a raise
-  raise-still : (devhandle devino : ℕ) → Still (raise plant devhandle devino)
-  unfolding raise raiseAt
-  raise-still devhandle devino =
-      still-grants (found NoSource (sysinoOf plant devhandle devino)) _ (λ i.
-      still-if (eqb (sourceAt plant i .state) 2) _ _ (still-granted _ refl)
-      (still-if (eqb (sourceAt plant i .enabled) 1 && (targetSet (sourceAt plant i .target) && put plant (targetNumber (sourceAt plant i .target)) 0x3d (deviceEntry plant i) .room)) _ _
-      (still-granted _ refl) (still-granted _ refl)))
-
-  -- every call
-  module _ (sight : Sight) (c : Call) where
-    group-still : (t : Bool) (f : Function) → Still (perform sight plant c f) → Still ((t or-refuse EBADTRAP then granted f) grants λ f. perform sight plant c f)
-    group-still true f s = s
-    group-still false f s = still-refused EBADTRAP
-
-    sysino-still : (f : Function) → Still (perform sight plant c f) → Still (negotiatedAsOne (plant .versions .interrupt) f grants λ f. perform sight plant c f)
-    sysino-still f s = go (leb 1 (plant .versions .interrupt)) (eqb (plant .versions .interrupt) 1)
+  module _ (plant : Plant) where
+    -- 0x102: each refusal of its address clears
+    conf-apart : (Clears r → ⊥) → (v : ℕ → ℕ → Bool) (cpu address : ℕ) → Granting Apart (mmustat-conf v plant cpu address)
+    unfolding mmustat-conf newStatistics
+    conf-apart n v cpu address = go (eqb address 0) (eqb (address % 64) 0) (v address 512)
       where
-        go : (t u : Bool) → Still ((t or-refuse EBADTRAP then u or-refuse ENOTSUPPORTED then granted f) grants λ f. perform sight plant c f)
-        go true true = s
-        go true false = still-refused ENOTSUPPORTED
-        go false u = still-refused EBADTRAP
+        go : (t u w : Bool) → Granting Apart (setOrClear plant cpu (if t then granted 0 else u or-refuse EBADALIGN then w or-refuse ENORADDR then granted address))
+        go true u w = tt
+        go false true true = tt
+        go false true false = λ q. n (inr q)
+        go false false w = λ q. n (inl q)
 
-    perform-still : (r ≡ EWOULDBLOCK → ⊥) → (f : Function) → ((f ≡ Function.MmustatConf) × Clears r → ⊥) → Still (admitted (plant .versions) f grants λ f. perform sight plant c f)
-    unfolding admitted perform cpu-myid mmustat-info mem-scrub mem-sync
-    perform-still m Function.Unknown n = still-refused EBADTRAP
-    perform-still m Function.SetVersion n = set-version-still (c .arg0) (c .arg1)
-    perform-still m Function.GetVersion n = get-version-still (c .arg0)
-    perform-still m Function.CpuQconf n = group-still (leb 1 (plant .versions .core)) Function.CpuQconf (qconf-still (sight .valid) (c .cpu) (c .arg0) (c .arg1) (c .arg2))
-    perform-still m Function.CpuQinfo n = group-still (leb 1 (plant .versions .core)) Function.CpuQinfo (qinfo-still (c .cpu) (c .arg0))
-    perform-still m Function.CpuMyid n = group-still (leb 1 (plant .versions .core)) Function.CpuMyid (still-granted _ refl)
-    perform-still m Function.CpuMondoSend n = group-still (leb 1 (plant .versions .core)) Function.CpuMondoSend (mondo-still m sight (c .cpu) (c .arg0) (c .arg1) (c .arg2))
-    perform-still m Function.MmuTsbCtx0 n = group-still (leb 1 (plant .versions .core)) Function.MmuTsbCtx0 (ctx0-still sight (c .cpu) (c .arg0) (c .arg1))
-    perform-still m Function.MmuTsbCtxnon0 n = group-still (leb 1 (plant .versions .core)) Function.MmuTsbCtxnon0 (ctxnon0-still sight (c .cpu) (c .arg0) (c .arg1))
-    perform-still m Function.MemScrub n = group-still (leb 1 (plant .versions .core)) Function.MemScrub (pages-still (sight .valid) (c .arg0) (c .arg1) _ (still-granted _ refl))
-    perform-still m Function.MemSync n = group-still (leb 1 (plant .versions .core)) Function.MemSync (pages-still (sight .valid) (c .arg0) (c .arg1) _ (still-granted _ refl))
-    perform-still m Function.MmustatConf n = group-still (leb 1 (plant .versions .statistics)) Function.MmustatConf (conf-still (λ k. n (refl, k)) (sight .valid) (c .cpu) (c .arg0))
-    perform-still m Function.MmustatInfo n = group-still (leb 1 (plant .versions .statistics)) Function.MmustatInfo (still-granted _ refl)
-    perform-still m Function.IntrDevino2sysino n = sysino-still Function.IntrDevino2sysino (devino-still (c .arg0) (c .arg1))
-    perform-still m (Function.Sysino k) n = sysino-still (Function.Sysino k) (intr-still k (c .arg0) (c .arg1))
-    perform-still m (Function.Cookie k) n = go (eqb (plant .versions .interrupt) 2)
-      where
-        go : (t : Bool) → Still ((t or-refuse EBADTRAP then granted (Function.Cookie k)) grants λ f. perform sight plant c f)
-        go true = vintr-still k (c .arg0) (c .arg1) (c .arg2)
-        go false = still-refused EBADTRAP
+    source-apart : (i value : ℕ) (call : SourceCall) → Granting Apart (sourceCall plant i value call)
+    unfolding sourceCall get-enabled set-enabled get-state set-state get-target set-target
+    source-apart i value SourceCall.GetEnabled = tt
+    source-apart i value SourceCall.SetEnabled =
+        by-then Apart (leb value 1) EINVAL _
+        (by-then Apart (not (eqb value 1 && (eqb (plant .versions .interrupt) 2 && eqb (sourceAt plant i .cookie) 0))) EINVAL _ tt)
+    source-apart i value SourceCall.GetState = tt
+    source-apart i value SourceCall.SetState = by-then Apart (leb value 2) EINVAL _ tt
+    source-apart i value SourceCall.GetTarget = tt
+    source-apart i value SourceCall.SetTarget = by-then Apart (ltb value (plant .cpus)) ENOCPU _ tt
 
-plant-still : (sight : Sight) (plant : Plant) (event : Event) (r : Refusal) → (Excepted event r → ⊥) → Still plant r (plantRule sight plant event)
-unfolding plantRule call load-word store-word
-plant-still sight plant (Event.Call c) r n =
-    still-then plant r (ltb (c .cpu) (plant .cpus)) NoCaller _
-    (perform-still plant r sight c (λ e. n (inl e)) (functionOf (c .trap) (c .function)) (λ e. n (inr e)))
-plant-still sight plant (Event.Head h) r n = still-then plant r (ltb (h .cpu) (plant .cpus)) NoCaller _ (head-still plant r (h .cpu) (h .queue) (h .value))
-plant-still sight plant (Event.Raise d) r n = raise-still plant r (d .devhandle) (d .devino)
-plant-still sight plant (Event.Load l) r n = word-still plant r (sight .valid) (l .address) _ (still-granted plant r _ refl)
-plant-still sight plant (Event.Store s) r n = word-still plant r (sight .valid) (s .address) _ (still-granted plant r _ refl)
+    cookie-apart : (i value : ℕ) (call : CookieCall) → Granting Apart (cookieCall plant i value call)
+    unfolding cookieCall get-cookie set-cookie
+    cookie-apart i value CookieCall.GetCookie = tt
+    cookie-apart i value CookieCall.SetCookie = by-then Apart (eqb value 0 || ltb 2047 value) EINVAL _ (by-if Apart (eqb value 0) _ _ tt tt)
+    cookie-apart i value (CookieCall.Source call) = source-apart i value call
+
+    perform-apart : (sight : Sight) (c : Call) (f : Function) → (r ≡ EWOULDBLOCK → ⊥) → ((f ≡ Function.MmustatConf) × Clears r → ⊥) → Granting Apart (perform sight plant c f)
+    unfolding perform set-version get-version cpu-qconf cpu-qinfo cpu-myid cpu-mondo-send mmu-tsb-ctx0 mmu-tsb-ctxnon0 mem-scrub mem-sync mmustat-info intr-devino2sysino intr vintr
+    perform-apart sight c Function.Unknown m n = tt
+    perform-apart sight c Function.SetVersion m n =
+        by-then Apart (known (groupOf (c .arg0))) EINVAL _
+        (by-then Apart (leb 1 (c .arg1) && leb (c .arg1) (newest (groupOf (c .arg0)))) ENOTSUPPORTED _
+        (by-then Apart (leb (majorOf (plant .versions) (groupOf (c .arg0))) (c .arg1)) ENOTSUPPORTED _ tt))
+    perform-apart sight c Function.GetVersion m n =
+        by-then Apart (known (groupOf (c .arg0))) EINVAL _
+        (by-then Apart (leb 1 (majorOf (plant .versions) (groupOf (c .arg0)))) EINVAL _ tt)
+    perform-apart sight c Function.CpuQconf m n =
+        by-then Apart (isQueue (c .arg0)) EINVAL _
+        (by-if Apart (eqb (c .arg2) 0) _ _ tt (by-value Apart (newRing (sight .valid) (c .arg1) (c .arg2)) _ (λ ring _. tt)))
+    perform-apart sight c Function.CpuQinfo m n = by-then Apart (isQueue (c .arg0)) EINVAL _ (base-apart (queueAt (cpuAt plant (c .cpu)) (indexOf (c .arg0))))
+    perform-apart sight c Function.CpuMyid m n = tt
+    perform-apart sight c Function.CpuMondoSend m n =
+        by-then Apart (leb 1 (c .arg0) && leb (c .arg0) 64) EINVAL _
+        (by-then Apart (eqb (c .arg2 % 64) 0 && eqb (c .arg1 % 2) 0) EBADALIGN _
+        (by-then Apart (sight .valid (c .arg2) 64 && sight .valid (c .arg1) (2 * c .arg0)) ENORADDR _
+        (by-then Apart (not (someBelow (c .arg0) (λ i. isCaller (c .cpu) (listedCpu (sight .byte) (c .arg1) i)))) EINVAL _
+        (by-then Apart (not (someBelow (c .arg0) (λ i. isStranger (plant .cpus) (listedCpu (sight .byte) (c .arg1) i)))) ENOCPU _
+        (sent-apart m (sendAll plant (listedCpus (sight .byte) (c .arg1) (c .arg0)) (bytesFrom (sight .byte) (c .arg2) 64) (c .arg1) .all))))))
+    perform-apart sight c Function.MmuTsbCtx0 m n = by-value Apart (newTsbs sight (c .arg0) (c .arg1)) _ (λ tsbs _. tt)
+    perform-apart sight c Function.MmuTsbCtxnon0 m n = by-value Apart (newTsbs sight (c .arg0) (c .arg1)) _ (λ tsbs _. tt)
+    perform-apart sight c Function.MemScrub m n = by-pages Apart (sight .valid) (c .arg0) (c .arg1) _ tt
+    perform-apart sight c Function.MemSync m n = by-pages Apart (sight .valid) (c .arg0) (c .arg1) _ tt
+    perform-apart sight c Function.MmustatConf m n = conf-apart (λ k. n (refl, k)) (sight .valid) (c .cpu) (c .arg0)
+    perform-apart sight c Function.MmustatInfo m n = tt
+    perform-apart sight c Function.IntrDevino2sysino m n = by-value Apart (found EINVAL (sysinoOf plant (c .arg0) (c .arg1))) _ (λ i _. tt)
+    perform-apart sight c (Function.Sysino k) m n = by-then Apart (ltb (c .arg0) (plant .sources)) EINVAL _ (source-apart (c .arg0) (c .arg1) k)
+    perform-apart sight c (Function.Cookie k) m n =
+        by-value Apart (found EINVAL (sysinoOf plant (c .arg0) (c .arg1))) _ (λ i _.
+        by-then Apart (sourceAt plant i .cookies) ENOTSUPPORTED _ (cookie-apart i (c .arg2) k))
+
+    event-apart : (sight : Sight) (event : Event) → (Excepted event r → ⊥) → Granting Apart (plantRule sight plant event)
+    unfolding plantRule write-head raise raiseAt load-word store-word
+    event-apart sight (Event.Call c) n =
+        by-then Apart (ltb (c .cpu) (plant .cpus)) NoCaller _
+        (by-call Apart sight plant c (perform-apart sight c (functionOf (c .trap) (c .function)) (λ e. n (inl e)) (λ e. n (inr e))))
+    event-apart sight (Event.Head h) n =
+        by-then Apart (ltb (h .cpu) (plant .cpus)) NoCaller _
+        (by-then Apart (isQueue (h .queue)) EINVAL _
+        (by-value Apart (ringOf (queueAt (cpuAt plant (h .cpu)) (indexOf (h .queue)))) _ (λ ring _.
+        by-then Apart (eqb (h .value % 64) 0) EBADALIGN _
+        (by-then Apart (ltb (h .value) (ring .size) && leb (forward ring (h .value)) (forward ring (ring .tail))) EINVAL _ tt))))
+    event-apart sight (Event.Raise d) n =
+        by-value Apart (found NoSource (sysinoOf plant (d .devhandle) (d .devino))) _ (λ i _.
+        by-if Apart (eqb (sourceAt plant i .state) 2) _ _ tt
+        (by-if Apart (eqb (sourceAt plant i .enabled) 1 && put plant (sourceAt plant i .target) 0x3d (deviceEntry plant i) .room) _ _ tt tt))
+    event-apart sight (Event.Load l) n = by-word Apart (sight .valid) (l .address) _ tt
+    event-apart sight (Event.Store s) n = by-word Apart (sight .valid) (s .address) _ tt
 
 -- a guest's outcome that leaves its record and writes nothing leaves the host
 pub puts-nothing : (tables : Tables) (memory : List ℕ) (g : ℕ) (o : Outcome) → o .plant ≡ plantAt tables g → o .writes ≡ [] → Unchanged tables memory (putBack tables memory g o)
@@ -261,30 +157,32 @@ unfolding apply
 puts-nothing tables memory g o p w = rw (p, w) (ap (λ l. record { guests = tables .guests; guest = l }) (set-getD (tables .guest) g hollowGuest), refl)
 
 module _ (tables : Tables) (memory : List ℕ) (event : Event) (r : Refusal) (other : Excepted event r → ⊥) where
-  -- a ruling that leaves the host if it answers r
-  abbrev StillHost : Ruling HostOutcome → Type 0
-  StillHost x = hostOutcomeOf tables memory x .answer ≡ Refused r → Unchanged tables memory (hostOutcomeOf tables memory x)
+  -- an outcome that leaves the host if it answers r
+  abbrev Still : HostOutcome → Type 0
+  Still o = o .answer ≡ Refused r → Unchanged tables memory o
 
-  by-owner : (w : Owner) → StillHost (answeredBy tables memory event w)
-  by-owner Owner.Nobody = λ e. (refl, refl)
-  by-owner (Owner.Guest g) = go (ltb g (tables .guests)) refl
-    where
-      go : (t : Bool) → ltb g (tables .guests) ≡ t → StillHost (answeredBy tables memory event (Owner.Guest g))
-      go true q = rw q (λ e.
-          let s = plant-still (sightOf (extentsOf tables g) memory) (plantAt tables g) event r other e in
-          puts-nothing tables memory g (did (machineOf tables memory g) event) (s .0) (s .1))
-      go false q = rw q (λ e. (refl, refl))
+  by-owner : (w : Owner) → Granting Still (answeredBy tables memory event w)
+  by-owner Owner.Nobody = tt
+  by-owner (Owner.Guest g) =
+      let plant : Plant = plantAt tables g in
+      let sight : Sight = sightOf (extentsOf tables g) memory in
+      by-then Still (ltb g (tables .guests)) NoCaller _ (λ e.
+      let s = leaves r plant (plantRule sight plant event) (event-apart r plant sight event other) e in
+      puts-nothing tables memory g (did (machineOf tables memory g) event) (s .0) (s .1))
 
-  by-door : (t u : Bool) → StillHost (t or-refuse BadTables then u or-refuse ShortMemory then answeredBy tables memory event (ownerOf tables event))
-  by-door true true = by-owner (ownerOf tables event)
-  by-door true false = λ e. (refl, refl)
-  by-door false u = λ e. (refl, refl)
+  by-door : Granting Still (hostRule tables memory event)
+  unfolding hostRule
+  by-door = by-then Still (keepRules tables) BadTables _ (by-then Still (longEnough tables (length memory)) ShortMemory _ (by-owner (ownerOf tables event)))
+
+  host-still : (x : Ruling HostOutcome) → Granting Still x → Still (hostOutcomeOf tables memory x)
+  host-still (refused s) h = λ e. (refl, refl)
+  host-still (granted o) h = h
 
 -- For every tables, memory and event, an answer that is a refusal leaves the tables and every byte of memory as they were, if it
 -- is not excepted.
 pub refusal-changes-nothing : RefusalChangesNothing
-unfolding hostEvent hostRule
-refusal-changes-nothing tables memory event r other = by-door tables memory event r other (keepRules tables) (longEnough tables (length memory))
+unfolding hostEvent
+refusal-changes-nothing tables memory event r other = host-still tables memory event r other (hostRule tables memory event) (by-door tables memory event r other)
 
 -- What the two excepted of 0x102 do.
 module _ (tables : Tables) (memory : List ℕ) (c : Call) (r : Refusal) (clears : Clears r) where
@@ -303,13 +201,13 @@ module _ (tables : Tables) (memory : List ℕ) (c : Call) (r : Refusal) (clears 
   never : (s : Refusal) → eqb (statusOf s) 8 ≡ false → eqb (statusOf s) 2 ≡ false → Refused s ≡ Refused r → ⊥
   unfolding statusOf
   never s align range e =
-      let same : s ≡ r = sym (told plant r s e) in
+      let same : s ≡ r = cc in
       ⊎-elim (λ q. eqb-false (statusOf s) 8 align (ap statusOf (same ∙ q))) (λ q. eqb-false (statusOf s) 2 range (ap statusOf (same ∙ q))) clears
 
   conf-clearing : (x : Ruling ℕ) → Clearing (given (setOrClear plant (c .cpu) x))
   unfolding apply
   conf-clearing (refused s) e = (refl, refl)
-  conf-clearing (granted a) e = absurd (true≢false (ap accepting e))
+  conf-clearing (granted a) e = absurd (other-told r _ tt e)
 
   call-clearing : (sight : Sight) → StatisticsCall (Event.Call c) → Clearing (given (plantRule sight plant (Event.Call c)))
   unfolding statusOf plantRule call admitted perform mmustat-conf

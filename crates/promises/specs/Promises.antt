@@ -6,8 +6,9 @@ use mathlib.Core.List.{List}
 use Prim.Native.Nat.{ℕ, _+_, _*_, _%_, _<_}
 use lib.Dec.{eqb}
 use lib.ListN.{length, replicate}
-use Rattle.rules.specs.declared.Answer.the-variants.{Done, Refused}
+use Rattle.rules.specs.declared.Answer.the-variants.{Done, One, Refused}
 use Rattle.rules.specs.declared.Call.{Call}
+use Rattle.rules.specs.declared.Device.{Device}
 use Rattle.rules.specs.declared.Event.{Event}
 use Rattle.rules.specs.declared.Plant.{Plant}
 use Rattle.rules.specs.declared.QueueRecord.{QueueRecord}
@@ -28,7 +29,7 @@ use Rattle.rules.specs.Session.{output}
 use Rattle.memory.specs.Cells.{cell, owns}
 use Rattle.session.specs.Feeding.{atFirst}
 use Rattle.session.specs.Pieces.{inPieces, joinedUp, Roomy}
-use Rattle.promises.specs.Words.{Passes, belongs, tablesAfter, memoryAfter, ownEvents, ownAnswers, Unchanged, Untouched, InSome, OneRun, SameReal, StatisticsCall, Clears, cleared, Excepted}
+use Rattle.promises.specs.Words.{Passes, belongs, tablesAfter, memoryAfter, ownEvents, ownAnswers, Unchanged, Untouched, InSome, OneRun, SameReal, StatisticsCall, Clears, cleared, Excepted, targetAt, SetsTarget, Received}
 use Rattle.promises.specs.Machine.{Machine, machineOf, guestAfter, answersAlone, machineAfter}
 use Rattle.promises.specs.Resent.{MondoCall, AllMarked, ReadyAgain, GotInAll}
 
@@ -191,6 +192,25 @@ SentAgain =
     let resent : Machine = machineOf (two .tables) (two .memory) (c .guest) in
     ReadyAgain c first sent second
     → (two .answer ≡ Done) × ((cpu : ℕ) → cpu < first .plant .cpus → GotInAll c cpu first sent second resent)
+
+-- Interrupts go to cpu 0 at first (request No. 7).
+
+-- `first-targets`: "After loading, each source's target shall be cpu 0", and it stays what it is until a call sets it. Nothing is
+-- asked of the tables and the memory.
+pub record FirstTargets : Type 0 where
+  -- of every image, accepted or refused, every guest and every source, there or absent
+  pub at-first : (bytes : List ℕ) (g i : ℕ) → targetAt (load bytes .tables) g i ≡ 0
+  -- no event but 0xa6 and 0xae changes a target: not going to 2.0, not a cookie, not a raise
+  pub stays : (tables : Tables) (memory : List ℕ) (event : Event) → (SetsTarget event → ⊥)
+      → (g i : ℕ) → targetAt (hostEvent tables memory event .tables) g i ≡ targetAt tables g i
+
+-- `received-why`: a raise that answers 1, received, finds its source disabled, or its target's 0x3d ring unset or full. None waits
+-- for a call that sets a target.
+abbrev pub ReceivedWhy : Type 0
+ReceivedWhy =
+    (tables : Tables) (memory : List ℕ) (d : Device)
+    → hostEvent tables memory (Event.Raise d) .answer ≡ One 1
+    → Received tables d
 
 -- The session.
 

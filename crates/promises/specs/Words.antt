@@ -8,19 +8,26 @@ use lib.Dec.{eqb}
 use lib.ListN.{length}
 use Rattle.rules.specs.declared.Answer.{Answer}
 use Rattle.rules.specs.declared.Call.{Call}
+use Rattle.rules.specs.declared.CookieCall.{CookieCall}
+use Rattle.rules.specs.declared.Device.{Device}
 use Rattle.rules.specs.declared.Event.{Event}
 use Rattle.rules.specs.declared.Extent.{Extent}
 use Rattle.rules.specs.declared.Extents.{Extents}
+use Rattle.rules.specs.declared.Found.{Found}
 use Rattle.rules.specs.declared.Function.{Function}
 use Rattle.rules.specs.declared.Owner.{Owner}
 use Rattle.rules.specs.declared.Place.{Place}
+use Rattle.rules.specs.declared.QueueRecord.{QueueRecord}
 use Rattle.rules.specs.declared.Refusal.{Refusal}
 use Rattle.rules.specs.declared.Refusal.the-variants.{EBADALIGN, ENORADDR, EWOULDBLOCK}
+use Rattle.rules.specs.declared.SourceCall.{SourceCall}
 use Rattle.rules.specs.declared.Tables.{Tables}
-use Rattle.rules.specs.Kept.{guestAt, plantAt, extentAt, extentsOf, withPlant, withStatistics}
+use Rattle.rules.specs.Kept.{guestAt, plantAt, extentAt, extentsOf, cpuAt, queueAt, sourceAt, withPlant, withStatistics}
 use Rattle.rules.specs.Real.{holds, located}
 use Rattle.rules.specs.Rulings.{if_then_else_}
 use Rattle.rules.specs.Calls.{functionOf}
+use Rattle.rules.specs.Queues.{indexOf, hasRoom}
+use Rattle.rules.specs.Sources.{sysinoOf}
 use Rattle.rules.specs.Tables.{keepRules}
 use Rattle.rules.specs.Host.{HostOutcome, ownerOf, longEnough, hostEvent}
 use Rattle.memory.specs.Cells.{cell, owns}
@@ -109,3 +116,33 @@ cleared tables c = withPlant tables (c .guest) (withStatistics (plantAt tables (
 -- the refusals that may change something: EWOULDBLOCK ("see mondo send"), and those two of 0x102
 abbrev pub Excepted : Event → Refusal → Type 0
 Excepted event r = (r ≡ EWOULDBLOCK) ⊎ (StatisticsCall event × Clears r)
+
+-- the target of source i of guest g
+abbrev pub targetAt : Tables → ℕ → ℕ → ℕ
+targetAt tables g i = sourceAt (plantAt tables g) i .target
+
+-- the two functions that set a target, 0xa6 and 0xae
+abbrev pub TargetFunction : Function → Type 0
+TargetFunction f = (f ≡ Function.Sysino SourceCall.SetTarget) ⊎ (f ≡ Function.Cookie (CookieCall.Source SourceCall.SetTarget))
+
+-- a call of one of them
+abbrev pub SetsTarget : Event → Type 0
+SetsTarget (Event.Call c) = TargetFunction (functionOf (c .trap) (c .function))
+SetsTarget (Event.Head h) = ⊥
+SetsTarget (Event.Raise d) = ⊥
+SetsTarget (Event.Load l) = ⊥
+SetsTarget (Event.Store s) = ⊥
+
+-- a queue that takes no entry: it is unset, or its ring is full
+abbrev pub NoRoom : QueueRecord → Type 0
+NoRoom QueueRecord.Unset = Unit {0}
+NoRoom (QueueRecord.Set ring) = hasRoom ring ≡ false
+
+-- why a raise leaves its source received: it is disabled, or the 0x3d queue of its target takes no entry
+pub record Received (tables : Tables) (d : Device) : Type 0 where
+  pub guest : ℕ
+  pub source : ℕ
+  pub owner : ownerOf tables (Event.Raise d) ≡ Owner.Guest guest
+  pub found : sysinoOf (plantAt tables guest) (d .devhandle) (d .devino) ≡ Found.At source
+  pub why : (sourceAt (plantAt tables guest) source .enabled ≡ 0)
+      ⊎ NoRoom (queueAt (cpuAt (plantAt tables guest) (targetAt tables guest source)) (indexOf 0x3d))

@@ -1,5 +1,5 @@
 -- The rule of a raise at each return of the code, from the tests on the way.
-use mathlib.Core.Path.{_≡_, refl, sym, ap, _∙_, subst}
+use mathlib.Core.Path.{_≡_, refl, sym, ap, _∙_}
 use mathlib.Core.Bool.{Bool, true, false, not, true≢false}
 use mathlib.Core.List.{List, [], _++_}
 use Prim.Native.Nat.{ℕ, _<_}
@@ -11,8 +11,6 @@ use Rattle.rules.specs.declared.Answer.the-variants.{One}
 use Rattle.rules.specs.declared.Extents.{Extents}
 use Rattle.rules.specs.declared.Plant.{Plant}
 use Rattle.rules.specs.declared.QueueRecord.{QueueRecord}
-use Rattle.rules.specs.declared.Ring.{Ring}
-use Rattle.rules.specs.declared.Target.{Target}
 use Rattle.rules.specs.Limits.{cpuLimit, sourceLimit}
 use Rattle.rules.specs.Kept.{cpuAt, queueAt, sourceAt, withSource, withState}
 use Rattle.rules.specs.Real.{wordBytes, apply}
@@ -20,7 +18,7 @@ use Rattle.rules.specs.Rulings.{Ruling, granted, Outcome, if_then_else_, says}
 use Rattle.rules.specs.Queues.{hasRoom, putIn, Put, put}
 use Rattle.rules.specs.Sources.{deviceWord, deviceEntry, raiseAt}
 use Rattle.memory.specs.Ready.{present}
-use Rattle.records.specs.Sound.{TargetSound, Sound}
+use Rattle.records.specs.Sound.{Sound}
 use Rattle.plants.specs.declared.change.Change.{Change}
 use Rattle.plants.specs.declared.change.Done.{Done}
 use Rattle.plants.specs.declared.rings.Put.{Put as Told}
@@ -31,12 +29,17 @@ use Rattle.plants.proofs.ChangeLaws.{source-after, delivered-after}
 use Rattle.plants.proofs.OutcomeLaws.{quiet, quiet-told, source-changes}
 use Rattle.raise.specs.Raised.{becoming, Delivers}
 
--- a target is a cpuid
-pub target-below : (extents : Extents) (plant : Plant) (n i c : ℕ) → Sound extents plant n → i < plant .sources → sourceAt plant i .target ≡ Target.Cpu c → c < plant .cpus
-target-below extents plant n i c s h e = subst (TargetSound (plant .cpus)) e (s .targets i h)
+-- source i is one of the places, and the cpu that it delivers to one of the guest's
+module _ (extents : Extents) (plant : Plant) (n i : ℕ) (s : Sound extents plant n) (h : i < plant .sources) where
+  pub source-below : i < sourceLimit
+  source-below = omega (arith, s .sources)
 
-pub cpu-below : (extents : Extents) (plant : Plant) (n c : ℕ) → Sound extents plant n → c < plant .cpus → c < cpuLimit
-cpu-below extents plant n c s h = omega (arith, s .cpus)
+  module _ (c : ℕ) (d : Delivers (sourceAt plant i) c) where
+    pub target-there : c < plant .cpus
+    target-there = omega (arith, s .targets i h, d .target)
+
+    pub target-below : c < cpuLimit
+    target-below = omega (arith, s .cpus, target-there)
 
 -- word 0 of the entry, and the entry
 pub word-cookie : (plant : Plant) (i : ℕ) → plant .versions .interrupt ≡ 2 → sourceAt plant i .cookie ≡ deviceWord plant i
@@ -58,23 +61,16 @@ module _ (extents : Extents) (plant : Plant) (m : List ℕ) (i : ℕ) where
   raise-stays d g h = quiet-told extents plant (raiseAt plant i) m d (One 2) g (rw (eq-eqb (sourceAt plant i .state) 2 h))
 
   module _ (i-there : i < plant .sources) (s : Sound extents plant (length m)) (n : sourceAt plant i .state ≡ 2 → ⊥) where
-    below : i < sourceLimit
-    below = omega (arith, s .sources)
-
     received : (d : Done) → raiseAt plant i ≡ says (One 1) (withSource plant i (withState (sourceAt plant i) 1)) → d ≡ becoming plant i 1 → Follows extents plant (raiseAt plant i) m d m
     unfolding becoming
-    received d e g = quiet extents plant (raiseAt plant i) m d (source-changes plant (raiseAt plant i) d (One 1) i _ g below e)
+    received d e g = quiet extents plant (raiseAt plant i) m d (source-changes plant (raiseAt plant i) d (One 1) i _ g (source-below extents plant (length m) i s i-there) e)
 
     pub raise-disabled : (d : Done) → (sourceAt plant i .enabled ≡ 1 → ⊥) → d ≡ becoming plant i 1 → Follows extents plant (raiseAt plant i) m d m
     unfolding raiseAt
     raise-disabled d h g = received d (rw (ne-eqb (sourceAt plant i .state) 2 n, ne-eqb (sourceAt plant i .enabled) 1 h)) g
 
-    pub raise-nowhere : (d : Done) → sourceAt plant i .enabled ≡ 1 → sourceAt plant i .target ≡ Target.Unset → d ≡ becoming plant i 1 → Follows extents plant (raiseAt plant i) m d m
-    unfolding raiseAt
-    raise-nowhere d o t g = received d (rw (ne-eqb (sourceAt plant i .state) 2 n, eq-eqb (sourceAt plant i .enabled) 1 o, t)) g
-
-pub raise-delivers : (plant : Plant) (i c : ℕ) → (sourceAt plant i .state ≡ 2 → ⊥) → sourceAt plant i .enabled ≡ 1 → sourceAt plant i .target ≡ Target.Cpu c → Delivers (sourceAt plant i) c
-raise-delivers plant i c n o t = record { waits = n; enabled = o; target = t }
+pub raise-delivers : (plant : Plant) (i : ℕ) → (sourceAt plant i .state ≡ 2 → ⊥) → sourceAt plant i .enabled ≡ 1 → Delivers (sourceAt plant i) (sourceAt plant i .target)
+raise-delivers plant i n o = record { waits = n; enabled = o; target = refl }
 
 -- where there is no room, nothing is written
 unwritten : (held : QueueRecord) (entry : List ℕ) → putIn held entry .room ≡ false → putIn held entry .writes ≡ []

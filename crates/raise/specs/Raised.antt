@@ -4,7 +4,6 @@ use Prim.Native.Nat.{ℕ}
 use Rattle.rules.specs.declared.Answer.the-variants.{One}
 use Rattle.rules.specs.declared.Plant.{Plant}
 use Rattle.rules.specs.declared.Source.{Source}
-use Rattle.rules.specs.declared.Target.{Target}
 use Rattle.rules.specs.Kept.{sourceAt, withState}
 use Rattle.plants.specs.declared.change.Change.{Change}
 use Rattle.plants.specs.declared.change.Done.{Done}
@@ -18,4 +17,4 @@ becoming plant i state = doneBy (One state) (Change.Source i (withState (sourceA
 pub record Delivers (s : Source) (cpu : ℕ) : Type 0 where
   pub waits : s .state ≡ 2 → ⊥
   pub enabled : s .enabled ≡ 1
-  pub target : s .target ≡ Target.Cpu cpu
+  pub target : s .target ≡ cpu

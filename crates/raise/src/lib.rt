@@ -7,7 +7,6 @@ use plants::told;
 use rules::Answer;
 use rules::Extents;
 use rules::Plant;
-use rules::Target;
 ghost use mathlib.Core.Path.{_≡_};
 ghost use mathlib.Core.List.{_++_};
 ghost use Prim.Native.Nat.{_<_};
@@ -56,7 +55,7 @@ fn becomes(plant: Plant, i: usize, state: u8) -> Done
 // 0x3d ring, if it has room.
 fn deliver(extents: Extents, plant: Plant, mem: &mut [u8], i: usize, cpu: usize) -> Done
     requires { ⌜ Sound extents plant (length (now mem)) ⌝ }
-    requires { ⌜ (i < sourceLimit) × (cpu < plant .cpus) ⌝ }
+    requires { ⌜ i < plant .sources ⌝ }
     requires { ⌜ Delivers (sourceAt plant i) cpu ⌝ }
     ensures { λ r. ⌜ Follows extents plant (raiseAt plant i) (now (mem .entry)) r (now (mem .exit)) ⌝ }
 {
@@ -74,7 +73,7 @@ fn deliver(extents: Extents, plant: Plant, mem: &mut [u8], i: usize, cpu: usize)
     done_by(Answer::One(2), Change::Delivered(i, source, cpu, after))
 }
 
-// The source at position i is raised: delivered stays; enabled, with a target, it goes there; else it is received.
+// The source at position i is raised: delivered stays; enabled, it goes to its target; else it is received.
 pub fn raise_at(extents: Extents, plant: Plant, mem: &mut [u8], i: usize) -> Done
     requires { ⌜ Sound extents plant (length (now mem)) ⌝ }
     requires { ⌜ i < plant .sources ⌝ }
@@ -87,9 +86,5 @@ pub fn raise_at(extents: Extents, plant: Plant, mem: &mut [u8], i: usize) -> Don
     if source.enabled != 1 {
         return becomes(plant, i, 1);
     }
-    let target = source.target;
-    match target {
-        Target::Unset => becomes(plant, i, 1),
-        Target::Cpu(c) => deliver(extents, plant, mem, i, c as usize),
-    }
+    deliver(extents, plant, mem, i, source.target as usize)
 }

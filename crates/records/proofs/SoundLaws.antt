@@ -7,7 +7,6 @@ use lib.Dec.{eqb, ltb, leb}
 use borrow.Author.Tests.{eqb-true, ltb-true, leb-true, lt-ltb}
 use Rattle.rules.specs.declared.QueueRecord.{QueueRecord}
 use Rattle.rules.specs.declared.Ring.{Ring}
-use Rattle.rules.specs.declared.Target.{Target}
 use Rattle.rules.specs.declared.Cpu.{Cpu}
 use Rattle.rules.specs.declared.Plant.{Plant}
 use Rattle.rules.specs.declared.Source.{Source}
@@ -15,10 +14,10 @@ use Rattle.rules.specs.Kept.{cpuAt, queueAt, sourceAt}
 use Rattle.rules.specs.Limits.{cpuLimit, sourceLimit, devhandles, devinos}
 use Rattle.rules.specs.Queues.{newRing}
 use Rattle.rules.specs.Rulings.{accepts}
-use Rattle.rules.specs.Tables.{listRight, placeRight, ringRight, recordRight, cpuRight, cpuBlank, targetRight, sourceRight, sourceBlank, versionsRight, plantKeeps}
+use Rattle.rules.specs.Tables.{listRight, placeRight, ringRight, recordRight, cpuRight, cpuBlank, sourceRight, sourceBlank, versionsRight, plantKeeps}
 use Rattle.rules.proofs.Scan.{all-at}
 use Rattle.rules.proofs.Tests.{and-left, and-right}
-use Rattle.records.specs.Sound.{RingSound, RecordSound, TargetSound}
+use Rattle.records.specs.Sound.{RingSound, RecordSound}
 use Rattle.records.specs.Verdict.{verdictOf}
 use Rattle.records.specs.declared.Verdict.the-variants.{Right}
 use Rattle.records.proofs.Told.{told-right, range-told, entries-least, entries-most}
@@ -78,21 +77,16 @@ pub record-sound : (v : ℕ → ℕ → Bool) (held : QueueRecord) → recordRig
 record-sound v QueueRecord.Unset e = tt
 record-sound v (QueueRecord.Set ring) e = ring-sound v ring e
 
-pub target-sound : (cpus : ℕ) (t : Target) → targetRight cpus t ≡ true → TargetSound cpus t
-target-sound cpus Target.Unset e = tt
-target-sound cpus (Target.Cpu c) e = ltb-true _ _ e
-
 cpu-record : (v : ℕ → ℕ → Bool) (cpu : Cpu) (q : ℕ) → cpuRight v cpu ≡ true → q < 4 → recordRight v (queueAt cpu q) ≡ true
 unfolding cpuRight
 cpu-record v cpu q e h = all-at (λ j. recordRight v (queueAt cpu j)) 4 q (and-left _ _ e) h
 
-pub source-target : (plant : Plant) (s : Source) → sourceRight plant s ≡ true → TargetSound (plant .cpus) (s .target)
+pub source-target : (plant : Plant) (s : Source) → sourceRight plant s ≡ true → s .target < plant .cpus
 unfolding sourceRight
 source-target plant s e =
     let named : Bool = ltb (s .devhandle) devhandles && ltb (s .devino) devinos in
     let states : Bool = leb (s .enabled) 1 && leb (s .state) 2 in
-    let target : Bool = targetRight (plant .cpus) (s .target) in
-    target-sound (plant .cpus) (s .target) (and-left target _ (and-right states _ (and-right named _ e)))
+    ltb-true (s .target) (plant .cpus) (and-left (ltb (s .target) (plant .cpus)) _ (and-right states _ (and-right named _ e)))
 
 -- a plant that keeps the rules
 module _ (v : ℕ → ℕ → Bool) (plant : Plant) (e : plantKeeps v plant ≡ true) where
@@ -118,5 +112,5 @@ module _ (v : ℕ → ℕ → Bool) (plant : Plant) (e : plantKeeps v plant ≡ 
   pub plant-rings : (c q : ℕ) → c < plant .cpus → q < 4 → RecordSound v (queueAt (cpuAt plant c) q)
   plant-rings c q h k = record-sound v (queueAt (cpuAt plant c) q) (plant-records c q h k)
 
-  pub plant-targets : (i : ℕ) → i < plant .sources → TargetSound (plant .cpus) (sourceAt plant i .target)
+  pub plant-targets : (i : ℕ) → i < plant .sources → sourceAt plant i .target < plant .cpus
   plant-targets i h = source-target plant (sourceAt plant i) (list-there _ _ _ _ sources-right i h)

@@ -6,7 +6,6 @@ use Rattle.rules.specs.declared.Extents.{Extents}
 use Rattle.rules.specs.declared.Plant.{Plant}
 use Rattle.rules.specs.declared.QueueRecord.{QueueRecord}
 use Rattle.rules.specs.declared.Ring.{Ring}
-use Rattle.rules.specs.declared.Target.{Target}
 use Rattle.rules.specs.Kept.{cpuAt, queueAt, sourceAt}
 use Rattle.rules.specs.Limits.{cpuLimit, extentLimit, sourceLimit}
 use Rattle.rules.specs.Real.{valid}
@@ -27,11 +26,6 @@ abbrev pub RecordSound : (ℕ → ℕ → Bool) → QueueRecord → Type 0
 RecordSound valid QueueRecord.Unset = Unit {0}
 RecordSound valid (QueueRecord.Set ring) = RingSound valid ring
 
--- a target is a cpuid
-abbrev pub TargetSound : ℕ → Target → Type 0
-TargetSound cpus Target.Unset = Unit {0}
-TargetSound cpus (Target.Cpu c) = c < cpus
-
 -- a guest with a memory of n bytes
 pub record Sound (extents : Extents) (plant : Plant) (n : ℕ) : Type 0 where
   pub few : extents .extents ≤ extentLimit
@@ -39,4 +33,4 @@ pub record Sound (extents : Extents) (plant : Plant) (n : ℕ) : Type 0 where
   pub cpus : plant .cpus ≤ cpuLimit
   pub sources : plant .sources ≤ sourceLimit
   pub rings : (c q : ℕ) → c < plant .cpus → q < 4 → RecordSound (valid (present extents)) (queueAt (cpuAt plant c) q)
-  pub targets : (i : ℕ) → i < plant .sources → TargetSound (plant .cpus) (sourceAt plant i .target)
+  pub targets : (i : ℕ) → i < plant .sources → sourceAt plant i .target < plant .cpus

@@ -18,7 +18,6 @@ use rules::SOURCES;
 use rules::Source;
 use rules::TSBS;
 use rules::Tables;
-use rules::Target;
 use rules::Tsb;
 use rules::Tsbs;
 use rules::Versions;
@@ -48,7 +47,7 @@ pub fn source() -> Source
         cookies: false,
         enabled: 0,
         state: 0,
-        target: Target::Unset,
+        target: 0,
         cookie: 0,
     }
 }

@@ -7,11 +7,11 @@ use native.Mathlib.Omega.{arith}
 use lib.Dec.{eqb}
 use lib.ListN.{length, getD, replicate}
 use borrow.Author.Tests.{eqb-true, not-true}
-use Rattle.rules.specs.Types.{Extent, Extents, QueueRecord, Queue, Tsb, Tsbs, Cpu, Target, Source, Versions, Plant, Guest}
+use Rattle.rules.specs.Types.{Extent, Extents, QueueRecord, Queue, Tsb, Tsbs, Cpu, Source, Versions, Plant, Guest}
 use Rattle.rules.specs.Limits.{cpuLimit, extentLimit, sourceLimit, queueLimit, tsbLimit}
 use Rattle.rules.specs.Scan.{allBelow}
 use Rattle.rules.specs.Kept.{blankExtent, blankQueue, blankTsb, blankTsbs, blankCpu, blankSource, noVersions, blankGuest, hollowCpu, extentAt, queueAt, tsbAt, cpuAt, sourceAt}
-use Rattle.rules.specs.Tables.{extentBlank, recordBlank, tsbBlank, tsbsBlank, cpuBlank, targetBlank, sourceBlank, versionsBlank, extentsBlank, plantBlank, guestBlank}
+use Rattle.rules.specs.Tables.{extentBlank, recordBlank, tsbBlank, tsbsBlank, cpuBlank, sourceBlank, versionsBlank, extentsBlank, plantBlank, guestBlank}
 use Rattle.rules.proofs.Computing.{computing}
 use Rattle.rules.proofs.Scan.{all-at}
 use Rattle.rules.proofs.Tests.{and-left, and-right}
@@ -43,10 +43,6 @@ extent-blank x e =
 record-blank : (held : QueueRecord) → recordBlank held ≡ true → held ≡ QueueRecord.Unset
 record-blank QueueRecord.Unset e = refl
 record-blank (QueueRecord.Set ring) e = absurd (false≢true e)
-
-target-blank : (t : Target) → targetBlank t ≡ true → t ≡ Target.Unset
-target-blank Target.Unset e = refl
-target-blank (Target.Cpu c) e = absurd (false≢true e)
 
 pub tsb-blank : (t : Tsb) → tsbBlank t ≡ true → t ≡ blankTsb
 unfolding tsbBlank
@@ -82,8 +78,8 @@ source-blank s e =
     let c : s .cookies ≡ false = not-true _ (and-right (eqb (s .devino) 0) _ (and-right (eqb (s .devhandle) 0) _ r)) in
     let d : s .enabled ≡ 0 = eqb-true _ _ (and-left (eqb (s .enabled) 0) _ u) in
     let f : s .state ≡ 0 = eqb-true _ _ (and-right (eqb (s .enabled) 0) _ u) in
-    let g : s .target ≡ Target.Unset = target-blank _ (and-left (targetBlank (s .target)) _ w) in
-    let h : s .cookie ≡ 0 = eqb-true _ _ (and-right (targetBlank (s .target)) _ w) in
+    let g : s .target ≡ 0 = eqb-true _ _ (and-left (eqb (s .target) 0) _ w) in
+    let h : s .cookie ≡ 0 = eqb-true _ _ (and-right (eqb (s .target) 0) _ w) in
     λ i. record { devhandle = a i; devino = b i; cookies = c i; enabled = d i; state = f i; target = g i; cookie = h i }
 
 versions-blank : (v : Versions) → versionsBlank v ≡ true → v ≡ noVersions

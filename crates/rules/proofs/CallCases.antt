@@ -4,7 +4,6 @@ use mathlib.Core.List.{List, [], _∷_, _++_}
 use Prim.Native.String.{String}
 use Rattle.rules.proofs.Computing.{computing}
 use Rattle.rules.specs.Text.{bytesOf}
-use Rattle.rules.specs.Types.{Target}
 use Rattle.rules.proofs.Changes.{comparing, majors, source}
 use Rattle.rules.proofs.Sessions.{Exchange, _prints_, _prints_setting_, after, heard, Cases}
 
@@ -84,20 +83,20 @@ versionCalls =
     ∷ "call 0 0 80 a7 100 5" prints "7 0 0 0 0"
     ∷ "call 0 0 80 ae 100 5 0" prints "7 0 0 0 0"
     -- "repeating a version changes nothing"; "Going to 2.0 in group 2 disables every source of the guest", and no other's
-    ∷ "call 0 0 80 a2 0 1" prints "0 0 0 0 0" setting (source 0 0 1 0 Target.Unset 0 ∷ [])
-    ∷ "call 0 0 80 a2 1 1" prints "0 0 0 0 0" setting (source 0 1 1 0 Target.Unset 0 ∷ [])
+    ∷ "call 0 0 80 a2 0 1" prints "0 0 0 0 0" setting (source 0 0 1 0 0 0 ∷ [])
+    ∷ "call 0 0 80 a2 1 1" prints "0 0 0 0 0" setting (source 0 1 1 0 0 0 ∷ [])
     ∷ "call 1 0 ff 0 2 1 0" prints "0 0 0 0 0" setting (majors 1 0 0 1 0 ∷ [])
-    ∷ "call 1 0 80 a2 1 1" prints "0 0 0 0 0" setting (source 1 1 1 0 Target.Unset 0 ∷ [])
+    ∷ "call 1 0 80 a2 1 1" prints "0 0 0 0 0" setting (source 1 1 1 0 0 0 ∷ [])
     ∷ "call 0 0 ff 0 2 1 0" prints "0 0 0 0 0"
     ∷ "call 0 0 ff 0 1 1 0" prints "0 0 0 0 0"
     ∷ "call 0 0 ff 0 2 3 0" prints "d 0 0 0 0"
     ∷ "call 0 0 ff 0 2 2 0"
     prints "0 0 0 0 0"
-    setting (majors 0 1 1 2 1 ∷ source 0 0 0 0 Target.Unset 0 ∷ source 0 1 0 0 Target.Unset 0 ∷ [])
+    setting (majors 0 1 1 2 1 ∷ source 0 0 0 0 0 0 ∷ source 0 1 0 0 0 0 ∷ [])
     ∷ "call 0 0 ff 3 2" prints "0 2 0 0 0"
     -- repeating 2.0 disables nothing
-    ∷ "call 0 0 80 a8 100 5 800" prints "0 0 0 0 0" setting (source 0 0 0 0 Target.Unset 0x800 ∷ [])
-    ∷ "call 0 0 80 aa 100 5 1" prints "0 0 0 0 0" setting (source 0 0 1 0 Target.Unset 0x800 ∷ [])
+    ∷ "call 0 0 80 a8 100 5 800" prints "0 0 0 0 0" setting (source 0 0 0 0 0 0x800 ∷ [])
+    ∷ "call 0 0 80 aa 100 5 1" prints "0 0 0 0 0" setting (source 0 0 1 0 0 0x800 ∷ [])
     ∷ "call 0 0 ff 0 2 2 0" prints "0 0 0 0 0"
     -- "2 back to 1 ENOTSUPPORTED"
     ∷ "call 0 0 ff 0 2 1 0" prints "d 0 0 0 0"

@@ -4,7 +4,7 @@ use mathlib.Core.List.{List, [], _∷_, _++_}
 use Prim.Native.Nat.{ℕ, zero, suc, _+_, _*_, _/_}
 use lib.Dec.{eqb}
 use lib.ListN.{getD}
-use Rattle.rules.specs.Types.{Extent, QueueRecord, Tsb, Tsbs, Cpu, Target, Source, Versions, Plant, Guest, Tables}
+use Rattle.rules.specs.Types.{Extent, QueueRecord, Tsb, Tsbs, Cpu, Source, Versions, Plant, Guest, Tables}
 use Rattle.rules.specs.Limits.{extentLimit}
 use Rattle.rules.specs.Kept.{guestAt, extentAt, cpuAt, queueAt, tsbAt, sourceAt}
 use Rattle.rules.specs.Text.{same}
@@ -45,10 +45,6 @@ tsb function guest cpu i index associativity entries context mask base =
 abbrev pub statistics : ℕ → ℕ → ℕ → Row
 statistics guest cpu address = 0x102 ∷ guest ∷ cpu ∷ address ∷ []
 
-abbrev pub numberOfTarget : Target → List ℕ
-numberOfTarget Target.Unset = []
-numberOfTarget (Target.Cpu c) = c ∷ []
-
 abbrev pub numberOfBool : Bool → ℕ
 numberOfBool false = 0
 numberOfBool true = 1
@@ -57,8 +53,8 @@ numberOfBool true = 1
 abbrev pub device : ℕ → ℕ → ℕ → ℕ → Bool → Row
 device guest i devhandle devino cookies = 3 ∷ guest ∷ i ∷ devhandle ∷ devino ∷ numberOfBool cookies ∷ []
 
-abbrev pub source : ℕ → ℕ → ℕ → ℕ → Target → ℕ → Row
-source guest i enabled state target cookie = 4 ∷ guest ∷ i ∷ enabled ∷ state ∷ cookie ∷ numberOfTarget target
+abbrev pub source : ℕ → ℕ → ℕ → ℕ → ℕ → ℕ → Row
+source guest i enabled state target cookie = 4 ∷ guest ∷ i ∷ enabled ∷ state ∷ target ∷ cookie ∷ []
 
 -- the rows of places 0 to n-1, in order
 unfoldable pub each : ℕ → (ℕ → List Row) → List Row

@@ -6,7 +6,7 @@ use mathlib.Core.List.{List, [], _∷_, _++_}
 use Prim.Native.Nat.{ℕ, zero, suc, _+_, _-_, _*_}
 use Prim.Native.String.{String}
 use lib.ListN.{replicate, set}
-use Rattle.rules.specs.Types.{Extent, QueueRecord, Tsb, Tsbs, Target, Source, Versions, Plant, Guest, Tables}
+use Rattle.rules.specs.Types.{Extent, QueueRecord, Tsb, Tsbs, Source, Versions, Plant, Guest, Tables}
 use Rattle.rules.specs.Limits.{extentLimit, pageSize}
 use Rattle.rules.specs.Kept.{blankExtent, blankTsb, blankCpu, blankSource, blankGuest, noVersions, sourceAt, withPlant, withVersions, withSource, withQueue, withCtx0, withCtxnon0, withStatistics, withEnabled, withState, withTarget, withCookie}
 use Rattle.rules.specs.Statuses.{numbers}
@@ -194,7 +194,7 @@ broken =
     ∷ sourced 1 1 supported
     ∷ sourced 1 1 (λ s. withEnabled s 1)
     ∷ sourced 1 1 (λ s. withState s 1)
-    ∷ sourced 1 1 (λ s. withTarget s (Target.Cpu 0))
+    ∷ sourced 1 1 (λ s. withTarget s 1)
     ∷ sourced 1 1 (λ s. withCookie s 0x800)
     -- "each record unset or as its call would accept it": n 1, 3 and 512, base off 64n, range not valid; the last cpu and queue
     ∷ ringed 0 0 0x40 64 0 0
@@ -235,12 +235,13 @@ broken =
     ∷ plants (withVersions (guest0 .plant) (at 0 2 0 0))
     ∷ plants (withVersions (guest0 .plant) (at 0 0 3 0))
     ∷ plants (withVersions (guest0 .plant) (at 0 0 0 2))
-    -- devhandle 28 bits, devino 7; "enabled 0 or 1, state 0 to 2, target unset or a cpuid of the guest"
+    -- devhandle 28 bits, devino 7; "enabled 0 or 1, state 0 to 2, target .. a cpuid of the guest"
     ∷ sourced 0 0 (called 0x1000_0000 5)
     ∷ sourced 0 0 (called 0x100 128)
     ∷ sourced 1 0 (λ s. withEnabled s 2)
     ∷ sourced 1 0 (λ s. withState s 3)
-    ∷ sourced 1 0 (λ s. withTarget s (Target.Cpu 2))
+    ∷ sourced 1 0 (λ s. withTarget s 2)
+    ∷ sourced 1 0 (λ s. withTarget s 0xff)
     -- "a cookie 0, or above 2,047 with group 2 at 2.0 and support"
     ∷ sourced 2 0 (λ s. withCookie s 2047)
     ∷ sourced 1 0 (λ s. withCookie s 2048)
@@ -266,7 +267,7 @@ right =
     ∷ sourced 0 0 (unsupported 0)
     ∷ sourced 1 0 (λ s. withEnabled s 1)
     ∷ sourced 2 0 (λ s. withEnabled (withCookie s 2048) 1)
-    ∷ sourced 2 0 (λ s. withTarget s (Target.Cpu 1))
+    ∷ sourced 2 0 (λ s. withTarget s 1)
     ∷ []
 
 -- what a load answers on each of some tables, with memory up to the last extent's end; and a status with four zeros for each

@@ -5,7 +5,7 @@ use mathlib.Core.List.{List, [], _∷_}
 use Prim.Native.Nat.{ℕ}
 use Prim.Native.String.{String, _++_}
 use lib.ListN.{replicate, length}
-use Rattle.rules.specs.Types.{Cpu, Target, Guest, Tables}
+use Rattle.rules.specs.Types.{Cpu, Guest, Tables}
 use Rattle.rules.specs.Kept.{blankCpu, blankSource, blankGuest, noVersions, guestAt, cpuAt}
 use Rattle.rules.proofs.Computing.{computing}
 use Rattle.rules.specs.Text.{bytesOf}
@@ -140,8 +140,8 @@ loadedTables = record {
           cpu = replicate 8 blankCpu;
           sources = 2;
           source =
-              record { devhandle = 0xfff_ffff; devino = 127; cookies = true; enabled = 0; state = 0; target = Target.Unset; cookie = 0 }
-              ∷ record { devhandle = 1; devino = 64; cookies = false; enabled = 0; state = 0; target = Target.Unset; cookie = 0 }
+              record { devhandle = 0xfff_ffff; devino = 127; cookies = true; enabled = 0; state = 0; target = 0; cookie = 0 }
+              ∷ record { devhandle = 1; devino = 64; cookies = false; enabled = 0; state = 0; target = 0; cookie = 0 }
               ∷ replicate 14 blankSource;
         };
       }

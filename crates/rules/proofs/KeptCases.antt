@@ -2,7 +2,6 @@
 use mathlib.Core.Path.{_≡_, refl}
 use mathlib.Core.List.{List, [], _∷_}
 use Prim.Native.String.{String}
-use Rattle.rules.specs.Types.{Target}
 use Rattle.rules.proofs.Computing.{computing}
 use Rattle.rules.specs.Text.{bytesOf}
 use Rattle.rules.proofs.Changes.{comparing, majors, unset, ring, tsbs, tsb, statistics, source, word}
@@ -51,12 +50,12 @@ changesAlone =
     ∷ "call 0 1 80 102 41" prints "8 0 0 0 0" setting (statistics 0 1 0 ∷ [])
     ∷ "head 0 1 3c 40" prints "0 0 0 0 0" setting (ring 0 1 0x3c 0x300 0x100 0x40 0x40 ∷ [])
     ∷ "call 0 0 80 42 1 22 40" prints "0 0 0 0 0" setting (ring 0 1 0x3c 0x300 0x100 0x40 0x80 ∷ word 0x20 0xffff_ffff_0000_0000 ∷ [])
-    ∷ "call 0 0 80 a4 1 2" prints "0 0 0 0 0" setting (source 0 1 1 2 (Target.Cpu 0) 0 ∷ [])
-    ∷ "raise 100 5" prints "0 2 0 0 0" setting (ring 0 1 0x3d 0x400 0x80 0 0x40 ∷ source 0 0 1 2 (Target.Cpu 1) 0 ∷ [])
+    ∷ "call 0 0 80 a4 1 2" prints "0 0 0 0 0" setting (source 0 1 1 2 0 0 ∷ [])
+    ∷ "raise 100 5" prints "0 2 0 0 0" setting (ring 0 1 0x3d 0x400 0x80 0 0x40 ∷ source 0 0 1 2 1 0 ∷ [])
     ∷ "call 0 0 ff 0 0 1 0" prints "0 0 0 0 0" setting (majors 0 1 1 1 1 ∷ [])
     ∷ "call 0 0 ff 0 2 2 0"
     prints "0 0 0 0 0"
-    setting (majors 0 1 1 2 1 ∷ source 0 0 0 2 (Target.Cpu 1) 0 ∷ source 0 1 0 2 (Target.Cpu 0) 0 ∷ [])
+    setting (majors 0 1 1 2 1 ∷ source 0 0 0 2 1 0 ∷ source 0 1 0 2 0 0 ∷ [])
     ∷ "call 1 0 80 14 3c 0 0" prints "0 0 0 0 0" setting (unset 1 0 0x3c ∷ [])
     ∷ "store 1 0 1" prints "0 0 0 0 0" setting (word 0x2000 1 ∷ [])
     ∷ "load 0 0" prints "0 100000200 0 0 0"

@@ -5,7 +5,7 @@ use mathlib.Core.List.{List, [], _∷_, _++_}
 use Prim.Native.Nat.{_-_}
 use Prim.Native.String.{String}
 use lib.ListN.{replicate}
-use Rattle.rules.specs.Types.{QueueRecord, Target}
+use Rattle.rules.specs.Types.{QueueRecord}
 use Rattle.rules.specs.Kept.{plantAt, withPlant, withQueue}
 use Rattle.rules.specs.Real.{wordBytes}
 use Rattle.rules.specs.Session.{Session}
@@ -97,7 +97,7 @@ abbrev pub behindSeam : List Exchange
 behindSeam =
     "raise 100 5"
     prints "0 2 0 0 0"
-    setting (ring 0 0 0x3d 0 0x4000 0x1fc0 0x2040 ∷ source 0 0 1 2 (Target.Cpu 0) 0x800 ∷ word 0 0x800 ∷ [])
+    setting (ring 0 0 0x3d 0 0x4000 0x1fc0 0x2040 ∷ source 0 0 1 2 0 0x800 ∷ word 0 0x800 ∷ [])
     ∷ []
 
 pub record SeamCases : Type 0 where

@@ -3,7 +3,7 @@ use mathlib.Core.Bool.{true}
 use mathlib.Core.List.{List, [], _∷_, _++_}
 use Prim.Native.Nat.{ℕ, _-_}
 use lib.ListN.{length, replicate}
-use Rattle.rules.specs.Types.{Extent, Target, Guest, Tables, Event}
+use Rattle.rules.specs.Types.{Extent, Guest, Tables, Event}
 use Rattle.rules.specs.Limits.{extentLimit}
 use Rattle.rules.specs.Kept.{blankExtent, blankCpu, blankSource, blankGuest, noVersions}
 
@@ -29,7 +29,7 @@ workedGuest cpus host devhandle = record {
     cpus = cpus;
     cpu = replicate 8 blankCpu;
     sources = 1;
-    source = record { devhandle = devhandle; devino = 5; cookies = true; enabled = 0; state = 0; target = Target.Unset; cookie = 0 } ∷ replicate 15 blankSource;
+    source = record { devhandle = devhandle; devino = 5; cookies = true; enabled = 0; state = 0; target = 0; cookie = 0 } ∷ replicate 15 blankSource;
   };
 }
 

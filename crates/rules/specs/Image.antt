@@ -4,7 +4,7 @@ use Prim.Native.Nat.{ℕ, zero, suc, _+_, _-_, _*_, _/_, _%_, min, max}
 use mathlib.Core.List.{List}
 use lib.ListN.{length, set, replicate}
 use lib.Dec.{leb, ltb, eqb}
-use Rattle.rules.specs.Types.{Extent, Extents, Target, Source, Guest, Tables, ImageShort, ImageBad, Done, Refused, Loaded}
+use Rattle.rules.specs.Types.{Extent, Extents, Source, Guest, Tables, ImageShort, ImageBad, Done, Refused, Loaded}
 use Rattle.rules.specs.Limits.{guestLimit, cpuLimit, extentLimit, sourceLimit, realPages, hostPages}
 use Rattle.rules.specs.Scan.{someBelow, allBelow, _is-from_to_}
 use Rattle.rules.specs.Kept.{blankExtent, blankCpu, blankSource, blankGuest, noVersions, noGuests, guestAt, plantAt, extentAt, sourceAt}
@@ -30,7 +30,7 @@ readExtent bytes at = record {
   host = fieldAt bytes (at + (realPageWidth + pageCountWidth)) hostPageWidth;
 }
 
--- a source: "devhandle 28 bits, devino 7, cookie support 1"; it is unset, disabled, idle and 0
+-- a source: "devhandle 28 bits, devino 7, cookie support 1"; it is disabled, idle and 0, and its target cpu 0
 abbrev pub readSource : List ℕ → ℕ → Source
 readSource bytes at = record {
   devhandle = fieldAt bytes at devhandleWidth;
@@ -38,7 +38,7 @@ readSource bytes at = record {
   cookies = eqb (fieldAt bytes (at + (devhandleWidth + devinoWidth)) cookieSupportWidth) 1;
   enabled = 0;
   state = 0;
-  target = Target.Unset;
+  target = 0;
   cookie = 0;
 }
 

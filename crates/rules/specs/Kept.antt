@@ -3,7 +3,7 @@ use mathlib.Core.Bool.{false}
 use mathlib.Core.List.{List, []}
 use Prim.Native.Nat.{ℕ}
 use lib.ListN.{getD, set, replicate, take}
-use Rattle.rules.specs.Types.{Extent, Extents, Ring, QueueRecord, Queue, Tsb, Tsbs, Cpu, Target, Source, Versions, Plant, Guest, Tables}
+use Rattle.rules.specs.Types.{Extent, Extents, Ring, QueueRecord, Queue, Tsb, Tsbs, Cpu, Source, Versions, Plant, Guest, Tables}
 use Rattle.rules.specs.Limits.{guestLimit, cpuLimit, extentLimit, sourceLimit, queueLimit, tsbLimit}
 
 -- "After loading, all is unset, disabled, idle and 0, and the records of absent guests, cpus, extents, sources and list places stay so."
@@ -23,8 +23,9 @@ blankTsbs = record { tsbs = 0; tsb = replicate tsbLimit blankTsb }
 abbrev pub blankCpu : Cpu
 blankCpu = record { queue = replicate queueLimit blankQueue; ctx0 = blankTsbs; ctxnon0 = blankTsbs; statistics = 0 }
 
+-- by request No. 7: "After loading, each source's target shall be cpu 0 and not unset"
 abbrev pub blankSource : Source
-blankSource = record { devhandle = 0; devino = 0; cookies = false; enabled = 0; state = 0; target = Target.Unset; cookie = 0 }
+blankSource = record { devhandle = 0; devino = 0; cookies = false; enabled = 0; state = 0; target = 0; cookie = 0 }
 
 abbrev pub noVersions : Versions
 noVersions = record { sun4v = 0; core = 0; interrupt = 0; statistics = 0 }
@@ -134,7 +135,7 @@ withEnabled s enabled = record { devhandle = s .devhandle; devino = s .devino; c
 abbrev pub withState : Source → ℕ → Source
 withState s state = record { devhandle = s .devhandle; devino = s .devino; cookies = s .cookies; enabled = s .enabled; state = state; target = s .target; cookie = s .cookie }
 
-abbrev pub withTarget : Source → Target → Source
+abbrev pub withTarget : Source → ℕ → Source
 withTarget s target = record { devhandle = s .devhandle; devino = s .devino; cookies = s .cookies; enabled = s .enabled; state = s .state; target = target; cookie = s .cookie }
 
 abbrev pub withCookie : Source → ℕ → Source

@@ -1,10 +1,10 @@
 -- "Interrupt sources": 0xa0 to 0xae (000, section 10; 002, section 3) and raise.
-use mathlib.Core.Bool.{Bool, true, false, _&&_, _||_, not}
+use mathlib.Core.Bool.{Bool, _&&_, _||_, not}
 use mathlib.Core.List.{List, _++_}
 use Prim.Native.Nat.{ℕ}
 use lib.Dec.{leb, ltb, eqb}
 use lib.ListN.{replicate}
-use Rattle.rules.specs.Types.{Found, Target, Source, Plant, SourceCall, CookieCall, One, Refusal, EINVAL, ENOCPU, ENOTSUPPORTED, NoSource}
+use Rattle.rules.specs.Types.{Found, Source, Plant, SourceCall, CookieCall, One, Refusal, EINVAL, ENOCPU, ENOTSUPPORTED, NoSource}
 use Rattle.rules.specs.Scan.{firstBelow}
 use Rattle.rules.specs.Kept.{sourceAt, withSource, withEnabled, withState, withTarget, withCookie}
 use Rattle.rules.specs.Real.{wordBytes}
@@ -20,15 +20,6 @@ sysinoOf plant devhandle devino = firstBelow (plant .sources) (λ i. named (sour
 abbrev pub found : Refusal → Found → Ruling ℕ
 found r Found.Nothing = refused r
 found r (Found.At i) = granted i
-
--- "An unset target reads 0."
-abbrev pub targetNumber : Target → ℕ
-targetNumber Target.Unset = 0
-targetNumber (Target.Cpu c) = c
-
-abbrev pub targetSet : Target → Bool
-targetSet Target.Unset = false
-targetSet (Target.Cpu c) = true
 
 -- the values that a setting has, and the rule on tables asks for: "enabled (0 or 1), state (idle 0, received 1, delivered 2)"
 abbrev pub enabledValue : ℕ → Bool
@@ -63,12 +54,12 @@ module _ (plant : Plant) (i : ℕ) where
 
   -- "target": "no such cpuid ENOCPU"
   unfoldable pub get-target : Ruling Outcome
-  get-target = says (One (targetNumber (sourceAt plant i .target))) plant
+  get-target = says (One (sourceAt plant i .target)) plant
 
   unfoldable pub set-target : ℕ → Ruling Outcome
   set-target value =
       ltb value (plant .cpus) or-refuse ENOCPU then
-      done (withSource plant i (withTarget (sourceAt plant i) (Target.Cpu value)))
+      done (withSource plant i (withTarget (sourceAt plant i) value))
 
   -- "Cookie 1 to 2,047 EINVAL; cookie 0 disables."
   unfoldable pub get-cookie : Ruling Outcome
@@ -122,14 +113,15 @@ deviceWord plant i = if eqb (plant .versions .interrupt) 2 then sourceAt plant i
 unfoldable pub deviceEntry : Plant → ℕ → List ℕ
 deviceEntry plant i = wordBytes (deviceWord plant i) ++ replicate 56 0
 
--- raise: "delivered stays. Else the state becomes received; if enabled, target set and its 0x3d ring has room, an entry is
--- written at its tail, which moves on, .. and the state is delivered. Value 1 is the state after."
+-- raise: "delivered stays. Else the state becomes received; if enabled .. and its [target's] 0x3d ring has room, an entry is
+-- written at its tail, which moves on, .. and the state is delivered. Value 1 is the state after." (Left out: "target set", by
+-- request No. 7.)
 unfoldable pub raiseAt : Plant → ℕ → Ruling Outcome
 raiseAt plant i =
     let source : Source = sourceAt plant i in
-    let entry : Put = put plant (targetNumber (source .target)) 0x3d (deviceEntry plant i) in
+    let entry : Put = put plant (source .target) 0x3d (deviceEntry plant i) in
     if eqb (source .state) 2 then says (One 2) plant else
-    if eqb (source .enabled) 1 && (targetSet (source .target) && entry .room)
+    if eqb (source .enabled) 1 && entry .room
     then granted (record { answer = One 2; plant = withSource (entry .plant) i (withState source 2); writes = entry .writes })
     else says (One 1) (withSource plant i (withState source 1))
 

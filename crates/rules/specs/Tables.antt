@@ -2,7 +2,7 @@
 use mathlib.Core.Bool.{Bool, true, false, _&&_, _||_, not}
 use Prim.Native.Nat.{ℕ, _/_, _%_}
 use lib.Dec.{leb, ltb, eqb}
-use Rattle.rules.specs.Types.{Group, Extent, Extents, Ring, QueueRecord, Tsb, Tsbs, Cpu, Target, Source, Versions, Plant, Guest, Tables}
+use Rattle.rules.specs.Types.{Group, Extent, Extents, Ring, QueueRecord, Tsb, Tsbs, Cpu, Source, Versions, Plant, Guest, Tables}
 use Rattle.rules.specs.Limits.{guestLimit, cpuLimit, extentLimit, sourceLimit, queueLimit, tsbLimit, devhandles, devinos}
 use Rattle.rules.specs.Scan.{allBelow}
 use Rattle.rules.specs.Kept.{guestAt, extentAt, present, cpuAt, queueAt, tsbAt, sourceAt}
@@ -41,14 +41,10 @@ cpuBlank cpu =
     allBelow queueLimit (λ q. recordBlank (queueAt cpu q))
     && (tsbsBlank (cpu .ctx0) && (tsbsBlank (cpu .ctxnon0) && eqb (cpu .statistics) 0))
 
-abbrev pub targetBlank : Target → Bool
-targetBlank Target.Unset = true
-targetBlank (Target.Cpu c) = false
-
 unfoldable pub sourceBlank : Source → Bool
 sourceBlank s =
     (eqb (s .devhandle) 0 && (eqb (s .devino) 0 && not (s .cookies)))
-    && ((eqb (s .enabled) 0 && eqb (s .state) 0) && (targetBlank (s .target) && eqb (s .cookie) 0))
+    && ((eqb (s .enabled) 0 && eqb (s .state) 0) && (eqb (s .target) 0 && eqb (s .cookie) 0))
 
 unfoldable pub versionsBlank : Versions → Bool
 versionsBlank v = (eqb (v .sun4v) 0 && eqb (v .core) 0) && (eqb (v .interrupt) 0 && eqb (v .statistics) 0)
@@ -93,11 +89,6 @@ majorRight v group = leb (majorOf v group) (newest group)
 unfoldable pub versionsRight : Versions → Bool
 versionsRight v = (majorRight v Group.Sun4v && majorRight v Group.Core) && (majorRight v Group.Interrupt && majorRight v Group.Statistics)
 
--- "target unset or a cpuid of the guest"
-abbrev pub targetRight : ℕ → Target → Bool
-targetRight cpus Target.Unset = true
-targetRight cpus (Target.Cpu c) = ltb c cpus
-
 -- "a cookie 0, or above 2,047 with group 2 at 2.0 and support"
 unfoldable pub cookieRight : ℕ → Source → Bool
 cookieRight major s = eqb (s .cookie) 0 || (cookieValue (s .cookie) && (eqb major 2 && s .cookies))
@@ -106,12 +97,13 @@ cookieRight major s = eqb (s .cookie) 0 || (cookieValue (s .cookie) && (eqb majo
 unfoldable pub enabledRight : ℕ → Source → Bool
 enabledRight major s = eqb (s .enabled) 0 || not (eqb major 0 || (eqb major 2 && eqb (s .cookie) 0))
 
--- "the image's rules" of a source; "enabled 0 or 1, state 0 to 2"
+-- "the image's rules" of a source; "enabled 0 or 1, state 0 to 2, target .. a cpuid of the guest" (left out: "unset or", by
+-- request No. 7)
 unfoldable pub sourceRight : Plant → Source → Bool
 sourceRight plant s =
     (ltb (s .devhandle) devhandles && ltb (s .devino) devinos)
     && ((enabledValue (s .enabled) && stateValue (s .state))
-    && (targetRight (plant .cpus) (s .target)
+    && (ltb (s .target) (plant .cpus)
     && (cookieRight (plant .versions .interrupt) s && enabledRight (plant .versions .interrupt) s)))
 
 -- "the image's rules" of a guest's extents

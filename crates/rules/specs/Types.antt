@@ -11,7 +11,6 @@ pub use Rattle.rules.specs.declared.Queue.{Queue}
 pub use Rattle.rules.specs.declared.Tsb.{Tsb}
 pub use Rattle.rules.specs.declared.Tsbs.{Tsbs}
 pub use Rattle.rules.specs.declared.Cpu.{Cpu}
-pub use Rattle.rules.specs.declared.Target.{Target}
 pub use Rattle.rules.specs.declared.Source.{Source}
 pub use Rattle.rules.specs.declared.Versions.{Versions}
 pub use Rattle.rules.specs.declared.Plant.{Plant}

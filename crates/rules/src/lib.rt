@@ -93,20 +93,14 @@ pub struct Cpu {
     pub statistics: u64,
 }
 
-// The cpu that a source interrupts.
-pub enum Target {
-    Unset,
-    Cpu(u8),
-}
-
-// An interrupt source. enabled is 0 or 1; state is 0 idle, 1 received, 2 delivered.
+// An interrupt source. enabled is 0 or 1; state is 0 idle, 1 received, 2 delivered; target is the cpuid that it interrupts.
 pub struct Source {
     pub devhandle: u32,
     pub devino: u8,
     pub cookies: bool,
     pub enabled: u8,
     pub state: u8,
-    pub target: Target,
+    pub target: u8,
     pub cookie: u64,
 }
 

@@ -10,14 +10,13 @@ use Rattle.rules.specs.declared.Plant.{Plant}
 use Rattle.rules.specs.declared.CookieCall.{CookieCall}
 use Rattle.rules.specs.declared.Source.{Source}
 use Rattle.rules.specs.declared.SourceCall.{SourceCall}
-use Rattle.rules.specs.declared.Target.{Target}
 use Rattle.rules.specs.declared.Refusal.the-variants.{EINVAL, ENOCPU, ENOTSUPPORTED}
 use Rattle.rules.specs.declared.Answer.{Answer}
 use Rattle.rules.specs.declared.Answer.the-variants.{One}
 use Rattle.rules.specs.Image.{named}
 use Rattle.rules.specs.Kept.{sourceAt, withSource, withEnabled, withState, withTarget, withCookie}
 use Rattle.rules.specs.Rulings.{refused, outcomeOf, says, done}
-use Rattle.rules.specs.Sources.{sysinoOf, targetNumber, set-enabled, set-state, get-target, set-target, set-cookie, intr-devino2sysino, sourceCall, cookieCall, intr, vintr}
+use Rattle.rules.specs.Sources.{sysinoOf, set-enabled, set-state, set-target, set-cookie, intr-devino2sysino, sourceCall, cookieCall, intr, vintr}
 use Rattle.rules.proofs.Scan.{first-below}
 use Rattle.plants.specs.declared.change.Change.{Change}
 use Rattle.plants.specs.declared.change.Done.{Done}
@@ -51,11 +50,6 @@ module _ (plant : Plant) (devhandle devino : ℕ) (f : Found) (p : f ≡ sysinoO
   unfolding intr-devino2sysino
   sysino-found i e = rw (← p, e)
 
--- the getter whose field is an enum
-pub target-told : (plant : Plant) (i n : ℕ) → n ≡ targetNumber (sourceAt plant i .target) → get-target plant i ≡ says (One n) plant
-unfolding get-target
-target-told plant i n e = rw e
-
 -- the setters
 module _ (plant : Plant) (i value : ℕ) where
   pub enabled-past : 1 < value → set-enabled plant i value ≡ refused EINVAL
@@ -83,9 +77,9 @@ module _ (plant : Plant) (i value : ℕ) where
   unfolding set-target
   target-past h = rw (le-ltb value (plant .cpus) h)
 
-  pub target-done : (s : Source) → s ≡ withTarget (sourceAt plant i) (Target.Cpu value) → value < plant .cpus → set-target plant i value ≡ done (withSource plant i s)
+  pub target-done : value < plant .cpus → set-target plant i value ≡ done (withSource plant i (withTarget (sourceAt plant i) value))
   unfolding set-target
-  target-done s e h = rw (lt-ltb value (plant .cpus) h, e)
+  target-done h = rw (lt-ltb value (plant .cpus) h)
 
   pub cookie-zero : value ≡ 0 → set-cookie plant i value ≡ done (withSource plant i (withEnabled (withCookie (sourceAt plant i) value) 0))
   unfolding set-cookie

@@ -10,17 +10,15 @@ use rules::Plant;
 use rules::Refusal;
 use rules::Source;
 use rules::SourceCall;
-use rules::Target;
 ghost use mathlib.Core.Path.{_≡_};
 ghost use mathlib.Core.Bool.{_&&_};
 ghost use Prim.Native.Nat.{_≤_, _<_};
 ghost use lib.Dec.{eqb};
 ghost use Rattle.rules.specs.Limits.{sourceLimit};
 ghost use Rattle.rules.specs.Image.{named};
-ghost use Rattle.rules.specs.Kept.{withTarget};
 ghost use Rattle.rules.specs.Rulings.{outcomeOf};
 ghost use Rattle.rules.specs.Sources.{get-enabled, set-enabled, get-state, set-state, get-target, set-target, get-cookie, set-cookie};
-ghost use Rattle.rules.specs.Sources.{sysinoOf, targetNumber, intr-devino2sysino, sourceCall, cookieCall, intr, vintr};
+ghost use Rattle.rules.specs.Sources.{sysinoOf, intr-devino2sysino, sourceCall, cookieCall, intr, vintr};
 ghost use Rattle.plants.specs.Done.{quietly, saying};
 
 fn is_named(s: Source, devhandle: u64, devino: u64) -> bool
@@ -74,23 +72,12 @@ fn get_cookie(plant: Plant, i: usize) -> Answer
     Answer::One(s.cookie)
 }
 
-// An unset target reads 0.
-fn target_number(target: Target) -> u64
-    ensures { λ r. ⌜ r ≡ targetNumber target ⌝ }
-{
-    match target {
-        Target::Unset => 0,
-        Target::Cpu(c) => c as u64,
-    }
-}
-
 fn get_target(plant: Plant, i: usize) -> Answer
     requires { ⌜ i < sourceLimit ⌝ }
     ensures { λ r. ⌜ saying plant r ≡ outcomeOf plant (get-target plant i) ⌝ }
 {
     let s = plant.source[i];
-    let target = s.target;
-    Answer::One(target_number(target))
+    Answer::One(s.target as u64)
 }
 
 // Enabling that a source without a cookie does not allow, under 2.0.
@@ -133,20 +120,6 @@ fn set_state(plant: Plant, i: usize, value: u64) -> Done
     done_by(Answer::Done, Change::Source(i, s))
 }
 
-fn with_target(s: Source, target: Target) -> Source
-    ensures { λ r. ⌜ r ≡ withTarget s target ⌝ }
-{
-    Source {
-        devhandle: s.devhandle,
-        devino: s.devino,
-        cookies: s.cookies,
-        enabled: s.enabled,
-        state: s.state,
-        target,
-        cookie: s.cookie,
-    }
-}
-
 // The cpu has to be one of the guest's own.
 fn set_target(plant: Plant, i: usize, value: u64) -> Done
     requires { ⌜ i < sourceLimit ⌝ }
@@ -156,9 +129,9 @@ fn set_target(plant: Plant, i: usize, value: u64) -> Done
     if cpus <= value {
         return told(Answer::Refused(Refusal::ENOCPU));
     }
-    let s = plant.source[i];
-    let after = with_target(s, Target::Cpu(value as u8));
-    done_by(Answer::Done, Change::Source(i, after))
+    let mut s = plant.source[i];
+    s.target = value as u8;
+    done_by(Answer::Done, Change::Source(i, s))
 }
 
 // Cookie 0 disables; 1 to 2,047 are no cookies.

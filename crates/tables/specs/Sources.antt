@@ -4,11 +4,11 @@ use Prim.Native.Nat.{ℕ}
 use lib.Dec.{leb, ltb}
 use Rattle.rules.specs.declared.Source.{Source}
 use Rattle.rules.specs.Limits.{devhandles, devinos}
-use Rattle.rules.specs.Tables.{targetRight, cookieRight, enabledRight}
+use Rattle.rules.specs.Tables.{cookieRight, enabledRight}
 
 unfoldable pub sourceRightUnder : ℕ → ℕ → Source → Bool
 sourceRightUnder cpus major s =
     (ltb (s .devhandle) devhandles && ltb (s .devino) devinos)
     && ((leb (s .enabled) 1 && leb (s .state) 2)
-    && (targetRight cpus (s .target)
+    && (ltb (s .target) cpus
     && (cookieRight major s && enabledRight major s)))

@@ -1,7 +1,7 @@
 // "The records of absent guests, cpus, extents, sources and list places stay so": unset, disabled, idle and 0. In tables that
 // hold, every record that is tested here is blank, so a test that looks at all of it, with no early return, loses nothing.
 ghost use mathlib.Core.Path.{_≡_};
-ghost use Rattle.rules.specs.Tables.{extentBlank, recordBlank, tsbBlank, tsbsBlank, cpuBlank, targetBlank};
+ghost use Rattle.rules.specs.Tables.{extentBlank, recordBlank, tsbBlank, tsbsBlank, cpuBlank};
 ghost use Rattle.rules.specs.Tables.{sourceBlank, versionsBlank, extentsBlank, plantBlank, guestBlank};
 ghost use Rattle.tables.specs.Lists.{queuesBlank, cpusBlank, sourcesBlank};
 use rules::CPUS;
@@ -17,7 +17,6 @@ use rules::QueueRecord;
 use rules::SOURCES;
 use rules::Source;
 use rules::TSBS;
-use rules::Target;
 use rules::Tsb;
 use rules::Tsbs;
 use rules::Versions;
@@ -105,21 +104,11 @@ fn cpus_blank(cpu: [Cpu; CPUS]) -> bool
     blank
 }
 
-fn target_blank(target: Target) -> bool
-    ensures { λ r. ⌜ r ≡ targetBlank target ⌝ }
-{
-    match target {
-        Target::Unset => true,
-        Target::Cpu(_) => false,
-    }
-}
-
 pub(crate) fn source_blank(s: Source) -> bool
     ensures { λ r. ⌜ r ≡ sourceBlank s ⌝ }
 {
-    let target = s.target;
     ((s.devhandle == 0) & ((s.devino == 0) & !s.cookies))
-        & (((s.enabled == 0) & (s.state == 0)) & (target_blank(target) & (s.cookie == 0)))
+        & (((s.enabled == 0) & (s.state == 0)) & ((s.target == 0) & (s.cookie == 0)))
 }
 
 fn sources_blank(source: [Source; SOURCES]) -> bool

@@ -1,7 +1,7 @@
 // What the tables must hold of the small records: "the image's rules", "versions as negotiable", and the rules of a source.
 ghost use mathlib.Core.Path.{_≡_};
 ghost use Prim.Native.Nat.{_<_};
-ghost use Rattle.rules.specs.Tables.{versionsRight, targetRight, cookieRight, enabledRight, extentsKeep};
+ghost use Rattle.rules.specs.Tables.{versionsRight, cookieRight, enabledRight, extentsKeep};
 ghost use Rattle.tables.specs.Lists.{placeKeeps, listKeeps};
 ghost use Rattle.tables.specs.Sources.{sourceRightUnder};
 use crate::blank::extent_blank;
@@ -11,7 +11,6 @@ use rules::EXTENTS;
 use rules::Extent;
 use rules::Extents;
 use rules::Source;
-use rules::Target;
 use rules::Versions;
 
 // Devhandles have 28 bits and devinos 7.
@@ -23,15 +22,6 @@ pub(crate) fn versions_right(v: Versions) -> bool
     ensures { λ r. ⌜ r ≡ versionsRight v ⌝ }
 {
     ((v.sun4v <= 1) & (v.core <= 1)) & ((v.interrupt <= 2) & (v.statistics <= 1))
-}
-
-fn target_right(cpus: u8, target: Target) -> bool
-    ensures { λ r. ⌜ r ≡ targetRight cpus target ⌝ }
-{
-    match target {
-        Target::Unset => true,
-        Target::Cpu(c) => c < cpus,
-    }
 }
 
 // major is the negotiated version of group 2.
@@ -50,10 +40,9 @@ fn enabled_right(major: u8, s: Source) -> bool
 pub(crate) fn source_right(cpus: u8, major: u8, s: Source) -> bool
     ensures { λ r. ⌜ r ≡ sourceRightUnder cpus major s ⌝ }
 {
-    let target = s.target;
     ((s.devhandle < DEVHANDLES) & (s.devino < DEVINOS))
         & (((s.enabled <= 1) & (s.state <= 2))
-            & (target_right(cpus, target) & (cookie_right(major, s) & enabled_right(major, s))))
+            & ((s.target < cpus) & (cookie_right(major, s) & enabled_right(major, s))))
 }
 
 // A place of the list: an extent that is there is right, and any other is blank.

@@ -15,7 +15,6 @@ use rules::Source;
 use rules::StoreAt;
 use rules::TSBS;
 use rules::Tables;
-use rules::Target;
 use rules::Tsb;
 use rules::Tsbs;
 use rules::Versions;
@@ -135,24 +134,6 @@ fn set_later_extent(t: Tables, record: u64, field: u64, v: u64) -> Tables {
     set_extent(t, 3 + (record - 16) as usize, field, v)
 }
 
-// 0xff stands for no target.
-fn with_target(old: Source, v: u64) -> Source {
-    let target = if v == 0xff {
-        Target::Unset
-    } else {
-        Target::Cpu(byte(v))
-    };
-    Source {
-        devhandle: old.devhandle,
-        devino: old.devino,
-        cookies: old.cookies,
-        enabled: old.enabled,
-        state: old.state,
-        target,
-        cookie: old.cookie,
-    }
-}
-
 fn changed_source(old: Source, field: u64, v: u64) -> Source {
     let mut new = old;
     match field {
@@ -161,7 +142,7 @@ fn changed_source(old: Source, field: u64, v: u64) -> Source {
         2 => new.cookies = v != 0,
         3 => new.enabled = byte(v),
         4 => new.state = byte(v),
-        5 => return with_target(old, v),
+        5 => new.target = byte(v),
         _ => new.cookie = v,
     }
     new

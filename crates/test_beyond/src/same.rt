@@ -11,7 +11,6 @@ use rules::Ring;
 use rules::SOURCES;
 use rules::Source;
 use rules::Tables;
-use rules::Target;
 use rules::Tsb;
 use rules::Tsbs;
 use rules::Versions;
@@ -90,28 +89,13 @@ fn same_cpu(a: Cpu, b: Cpu) -> bool {
         & (a.statistics == b.statistics)
 }
 
-fn same_target(a: Target, b: Target) -> bool {
-    match a {
-        Target::Unset => match b {
-            Target::Unset => true,
-            Target::Cpu(_) => false,
-        },
-        Target::Cpu(p) => match b {
-            Target::Unset => false,
-            Target::Cpu(q) => p == q,
-        },
-    }
-}
-
 fn same_source(a: Source, b: Source) -> bool {
-    let p = a.target;
-    let q = b.target;
     (a.devhandle == b.devhandle)
         & (a.devino == b.devino)
         & (a.cookies == b.cookies)
         & (a.enabled == b.enabled)
         & (a.state == b.state)
-        & same_target(p, q)
+        & (a.target == b.target)
         & (a.cookie == b.cookie)
 }
 

@@ -1,7 +1,7 @@
--- `sources::get_target` meets its contract: its answer is the rule's, by the target's number.
+-- `sources::get_target` meets its contract: its answer is the rule's.
+use mathlib.Core.Path.{refl}
 use borrow.Author.Needs.{needs}
-use Rattle.plants.proofs.OutcomeLaws.{answers}
-use Rattle.sources.proofs.SourceLaws.{target-told}
+use Rattle.rules.specs.Sources.{get-target}
 use Rattle.sources.proofs.get_target.Statement.{statement}
 use Rattle.sources.proofs.get_target.Tie as tie
 
@@ -11,11 +11,12 @@ mul-s c = search needs
 element-copy-out-s : tie.Need-element-copy-out-s
 element-copy-out-s c = search needs
 
-target-number-requires : tie.Need-target-number-requires
-target-number-requires c κs = search needs
+cast-t9 : tie.Need-cast-t9
+cast-t9 c = search needs
 
 returns : tie.Need-returns
-returns c = search (answers, target-told)
+unfolding get-target
+returns c = refl
 
 pub get-target-spec : {M : Type 1} → statement M
-get-target-spec = tie.close (tie.spec mul-s element-copy-out-s target-number-requires returns)
+get-target-spec = tie.close (tie.spec mul-s element-copy-out-s cast-t9 returns)

@@ -20,11 +20,8 @@ mul-s c = search needs
 element-copy-out-s : tie.Need-element-copy-out-s
 element-copy-out-s c = search needs
 
-cast-t8 : tie.Need-cast-t8
-cast-t8 c = search needs
-
-with-target-requires : tie.Need-with-target-requires
-with-target-requires c κs = search needs
+cast-s : tie.Need-cast-s
+cast-s c = search needs
 
 done-by-requires : tie.Need-done-by-requires
 done-by-requires c κs = search needs
@@ -41,7 +38,6 @@ set-target-spec =
     returns
     mul-s
     element-copy-out-s
-    cast-t8
-    with-target-requires
+    cast-s
     done-by-requires
     returns-2)

@@ -4,9 +4,6 @@ use Rattle.tables.specs.Sources.{sourceRightUnder}
 use Rattle.tables.proofs.right.source_right.Statement.{statement}
 use Rattle.tables.proofs.right.source_right.Tie as tie
 
-target-right-requires : tie.Need-target-right-requires
-target-right-requires c κs = search needs
-
 cookie-right-requires : tie.Need-cookie-right-requires
 cookie-right-requires c κs = search needs
 
@@ -15,8 +12,7 @@ enabled-right-requires c κs = search needs
 
 returns : tie.Need-returns
 unfolding sourceRightUnder
-returns c = rw (c .before .before .target-right .ensures, c .before .cookie-right .ensures, c .enabled-right .ensures)
+returns c = rw (c .before .cookie-right .ensures, c .enabled-right .ensures)
 
 pub source-right-spec : {M : Type 1} → statement M
-source-right-spec =
-    tie.close (tie.spec target-right-requires cookie-right-requires enabled-right-requires returns)
+source-right-spec = tie.close (tie.spec cookie-right-requires enabled-right-requires returns)

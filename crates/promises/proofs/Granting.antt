@@ -1,0 +1,58 @@
+-- What a ruling grants, by the way a rule reads. A refusal grants nothing, so that there is nothing to show of it.
+use mathlib.Core.Path.{_≡_, refl, sym, _∙_}
+use mathlib.Core.Bool.{Bool, true, false, _&&_, not}
+use Prim.Native.Nat.{ℕ, _%_}
+use lib.Dec.{eqb}
+use Rattle.rules.specs.declared.Call.{Call}
+use Rattle.rules.specs.declared.Function.{Function}
+use Rattle.rules.specs.declared.Plant.{Plant}
+use Rattle.rules.specs.declared.Refusal.{Refusal}
+use Rattle.rules.specs.declared.Refusal.the-variants.{EINVAL, EBADALIGN, ENORADDR}
+use Rattle.rules.specs.Real.{Sight}
+use Rattle.rules.specs.Rulings.{Ruling, refused, granted, Outcome, _or-refuse_then_, _grants_, if_then_else_}
+use Rattle.rules.specs.Memory.{wholePages, wholeWord}
+use Rattle.rules.specs.Calls.{functionOf, admitted, perform, call}
+use Rattle.records.proofs.Told.{told-right}
+use Rattle.kept.proofs.Accepted.{granted-same}
+use Rattle.calls.proofs.DispatchLaws.{admitted-itself}
+
+-- P holds of what the ruling grants, if it does
+abbrev pub Granting : {A : Type 0} → (A → Type 0) → Ruling A → Type 0
+Granting P (refused r) = Unit {0}
+Granting P (granted a) = P a
+
+module _ {A : Type 0} (P : A → Type 0) where
+  pub by-then : (t : Bool) (r : Refusal) (x : Ruling A) → Granting P x → Granting P (t or-refuse r then x)
+  by-then true r x h = h
+  by-then false r x h = tt
+
+  pub by-if : (t : Bool) (x y : Ruling A) → Granting P x → Granting P y → Granting P (if t then x else y)
+  by-if true x y h k = h
+  by-if false x y h k = k
+
+  pub by-value : {B : Type 0} (m : Ruling B) (k : B → Ruling A) → ((b : B) → m ≡ granted b → Granting P (k b)) → Granting P (m grants k)
+  by-value (refused r) k h = tt
+  by-value (granted b) k h = h b refl
+
+  -- of the value itself
+  pub granted-has : (x : Ruling A) (a : A) → Granting P x → x ≡ granted a → P a
+  granted-has x a h e = rw e at h
+
+module _ (P : Outcome → Type 0) (v : ℕ → ℕ → Bool) (address : ℕ) where
+  -- what is done to whole pages, or to a word, that are valid
+  pub by-pages : (length : ℕ) (x : Ruling Outcome) → Granting P x → Granting P (wholePages v address length x)
+  unfolding wholePages
+  by-pages length x h = by-then P (not (eqb length 0)) EINVAL _ (by-then P (eqb (address % 8192) 0 && eqb (length % 8192) 0) EBADALIGN _ (by-then P (v address length) ENORADDR x h))
+
+  pub by-word : (x : Ruling Outcome) → Granting P x → Granting P (wholeWord v address x)
+  unfolding wholeWord
+  by-word x h = by-then P (eqb (address % 8) 0) EBADALIGN _ (by-then P (v address 8) ENORADDR x h)
+
+-- A call performs its own function, or is refused.
+pub by-call : (P : Outcome → Type 0) (sight : Sight) (plant : Plant) (c : Call) → Granting P (perform sight plant c (functionOf (c .trap) (c .function))) → Granting P (call sight plant c)
+unfolding call
+by-call P sight plant c h =
+    let f : Function = functionOf (c .trap) (c .function) in
+    by-value P (admitted (plant .versions) f) _ (λ admits e.
+    let itself : granted admits ≡ granted f = sym e ∙ admitted-itself (plant .versions) f (told-right _ (rw e)) in
+    rw (granted-same admits f itself) h)
