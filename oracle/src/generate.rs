@@ -15,6 +15,7 @@ mod refusal_steps;
 mod resend_steps;
 mod seam_steps;
 mod source_steps;
+mod target_steps;
 
 use crate::model::Host;
 use crate::session;
@@ -53,15 +54,16 @@ const EDGE_NUMBERS: [u64; 24] = [
 type Step = fn(&mut Generator);
 
 /// What happens on a sound partition, and how often.
-const STEPS: [(u64, Step); 21] = [
+const STEPS: [(u64, Step); 22] = [
     (7, Generator::mondo_step),
-    (5, Generator::resend_step),
+    (6, Generator::resend_step),
     (14, Generator::head_step),
     (6, Generator::configure_step),
     (3, Generator::queue_information_step),
     (1, Generator::cpuid_step),
     (16, Generator::source_step),
     (18, Generator::raise_step),
+    (3, Generator::target_step),
     (2, Generator::tsb_step),
     (4, Generator::statistics_step),
     (2, Generator::scrub_step),
@@ -71,7 +73,7 @@ const STEPS: [(u64, Step); 21] = [
     (3, Generator::unknown_step),
     (2, Generator::any_call_step),
     (8, Generator::refusal_step),
-    (12, Generator::seam_step),
+    (13, Generator::seam_step),
     (1, Generator::upgrade_step),
     (1, Generator::long_ring_step),
     (5, Generator::malformed_step),
@@ -121,7 +123,7 @@ impl Generator {
         }
         self.sound_image();
         self.prepare();
-        let length = self.random.pick(&[40, 80, 120, 200, 300, 600]);
+        let length = self.random.pick(&[40, 80, 120, 200, 300, 400]);
         for _ in 0..length {
             if self.lines_left == 0 {
                 break;

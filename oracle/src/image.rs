@@ -108,7 +108,7 @@ fn read_source(bits: &mut BitReader) -> Result<Source, Status> {
         cookie_support,
         enabled: false,
         state: SourceState::Idle,
-        target: None,
+        target: 0,
         cookie: 0,
     })
 }

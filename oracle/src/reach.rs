@@ -146,9 +146,8 @@ fn areas(guest: &Guest, memory: &[u8], ntsb: u64, pointer: u64) -> Named {
 fn named_by_raise(host: &Host, devhandle: u64, devino: u64) -> Named {
     for (number, guest) in host.tables.guests.iter().enumerate() {
         if let Some(sysino) = guest.sysino(devhandle, devino) {
-            let target = guest.sources[sysino].target.map(|cpu| ("target", cpu));
-            let named = [("guest", number), ("source", sysino)];
-            return named.into_iter().chain(target).collect();
+            let target = guest.sources[sysino].target;
+            return vec![("guest", number), ("source", sysino), ("target", target)];
         }
     }
     Named::new()

@@ -35,16 +35,16 @@ impl Guest {
 
     fn deliver_interrupt(&mut self, sysino: usize, memory: &mut [u8]) -> bool {
         let source = &self.sources[sysino];
-        let (true, Some(target)) = (source.enabled, source.target) else {
+        if !source.enabled {
             return false;
-        };
+        }
         let word = match self.major(Group::Interrupts) {
             2 => source.cookie,
             _ => sysino as u64,
         };
         let mut entry: Entry = [0; 64];
         entry[..8].copy_from_slice(&word.to_be_bytes());
-        self.append(target, DEVICE_MONDO, &entry, memory)
+        self.append(source.target, DEVICE_MONDO, &entry, memory)
     }
 }
 
@@ -92,7 +92,7 @@ impl Caller<'_> {
             1 => self.set_enabled(sysino, new),
             2 => value(source.state as u64),
             3 => self.set_state(sysino, new),
-            4 => value(source.target.unwrap_or(0) as u64),
+            4 => value(source.target as u64),
             _ => self.set_target(sysino, new),
         }
     }
@@ -122,7 +122,7 @@ impl Caller<'_> {
 
     fn set_target(&mut self, sysino: usize, new: u64) -> Outcome {
         let target = self.guest.cpu_numbered(new).ok_or(Status::ENOCPU)?;
-        self.guest.sources[sysino].target = Some(target);
+        self.guest.sources[sysino].target = target;
         DONE
     }
 

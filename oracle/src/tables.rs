@@ -148,7 +148,8 @@ pub struct Source {
     pub cookie_support: bool,
     pub enabled: bool,
     pub state: SourceState,
-    pub target: Option<usize>,
+    /// A cpuid of the guest.
+    pub target: usize,
     pub cookie: u64,
 }
 

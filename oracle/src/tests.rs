@@ -11,6 +11,8 @@ mod rules;
 mod seam_kinds;
 mod seams;
 mod sessions;
+mod target_kinds;
+mod targets;
 mod text;
 
 use crate::model::{Event, Host};

@@ -40,16 +40,20 @@ impl Generator {
     }
 
     /// Whether it is disabled shows by a get, without cookie support only by
-    /// a raise.
+    /// a raise. Enabled again, it goes to the target that it had.
     fn look_after_upgrade(&mut self, who: (usize, usize), sysino: usize) {
-        let source = &self.guest(who.0).sources[sysino];
-        let name = [source.devhandle, source.devino];
-        if source.cookie_support {
+        let cookie_support = self.guest(who.0).sources[sysino].cookie_support;
+        if cookie_support {
             self.set(who, sysino, 0xa9, 0);
             let get = self.random.pick(&[0xa7, 0xab, 0xad]);
             self.set(who, sysino, get, 0);
         }
-        self.event("raise", &name);
+        self.raise_source(who.0, sysino);
+        if cookie_support && self.random.one_in(2) {
+            self.enable(who, sysino);
+            self.raise_source(who.0, sysino);
+            self.serve(who.0, sysino);
+        }
     }
 
     // The longest rings.

@@ -87,7 +87,8 @@ impl Generator {
                 false => self.sysino(who.0),
             };
             let value = self.source_value(who.0, function, stray);
-            return self.call(who, function, &[sysino, value]);
+            self.call(who, function, &[sysino, value]);
+            return self.look_at_source(who, function, &[sysino]);
         }
         let function = self
             .random
@@ -103,6 +104,7 @@ impl Generator {
             _ => self.neighbours_or_own(who.0),
         };
         self.call(who, function, &[devhandle, devino, value]);
+        self.look_at_source(who, function, &[devhandle, devino]);
     }
 
     fn neighbours_or_own(&mut self, guest: usize) -> (u64, u64) {

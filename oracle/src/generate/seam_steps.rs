@@ -2,7 +2,6 @@
 //! lie on the host. Ranges that run over them, and ranges that just do not fit.
 
 use super::Generator;
-use crate::tables::Group;
 
 const PAGE: u64 = 8192;
 
@@ -67,7 +66,7 @@ impl Generator {
     }
 
     /// Any cpu of the guest.
-    fn someone_of(&mut self, guest: usize) -> (usize, usize) {
+    pub(super) fn someone_of(&mut self, guest: usize) -> (usize, usize) {
         (guest, self.random.index(self.guest(guest).cpus.len()))
     }
 
@@ -212,29 +211,16 @@ impl Generator {
         let (Some(base), Some(sysino)) = (row.room(TWO_PAGES), self.ready_source(who.0)) else {
             return self.leave_row(who, row);
         };
-        let source = &self.guest(who.0).sources[sysino];
-        let name = [source.devhandle, source.devino];
         self.set(who, sysino, 0xae, who.1 as u64);
-        if self.guest(who.0).major(Group::Interrupts) == 2 {
-            let cookie = 0x800 + self.random.below(1 << 32);
-            self.set(who, sysino, 0xa8, cookie);
-        }
-        self.set(who, sysino, 0xaa, 1);
+        self.enable(who, sysino);
         self.call(who, 0x14, &[0x3d, base, 256]);
         self.mark_pages();
         for _ in 0..132 + self.random.below(8) {
             self.set(who, sysino, 0xac, 0);
-            self.event("raise", &name);
+            self.raise_source(who.0, sysino);
         }
         self.look_at_pages();
         self.load(who.0, base + PAGE - 64);
-    }
-
-    /// A source that the guest's version can enable.
-    fn ready_source(&self, guest: usize) -> Option<usize> {
-        let major = self.guest(guest).major(Group::Interrupts);
-        let mut sources = self.guest(guest).sources.iter();
-        sources.position(|s| major == 1 || s.cookie_support)
     }
 
     // Ranges that leave their row.

@@ -5,20 +5,45 @@ use crate::queues::DEVICE_MONDO;
 use crate::tables::Group;
 
 impl Generator {
-    /// Target, cookie and enabled for most sources.
+    /// Most sources are enabled. The target of some is chosen before, of some
+    /// after it and a raise, of some never.
     pub(super) fn prepare_sources(&mut self, guest: usize) {
         for sysino in 0..self.guest(guest).sources.len() {
             if self.random.one_in(5) {
                 continue;
             }
-            let cpu = self.random.index(self.guest(guest).cpus.len());
-            let cookie = self.good_cookie();
-            self.set((guest, cpu), sysino, 0xae, cpu as u64);
-            if self.guest(guest).major(Group::Interrupts) == 2 {
-                self.set((guest, cpu), sysino, 0xa8, cookie);
+            let who = self.someone_of(guest);
+            if self.random.one_in(3) {
+                self.set(who, sysino, 0xad, 0);
             }
-            self.set((guest, cpu), sysino, 0xaa, 1);
+            let chosen = self.random.below(4);
+            if chosen < 2 {
+                self.set(who, sysino, 0xae, who.1 as u64);
+            }
+            self.enable(who, sysino);
+            if chosen == 2 {
+                self.raise_source(guest, sysino);
+                self.set(who, sysino, 0xae, who.1 as u64);
+            }
         }
+    }
+
+    /// Under 2.0 with a new cookie.
+    pub(super) fn enable(&mut self, who: (usize, usize), sysino: usize) {
+        if self.guest(who.0).major(Group::Interrupts) == 2 {
+            let cookie = self.good_cookie();
+            self.set(who, sysino, 0xa8, cookie);
+        }
+        self.set(who, sysino, 0xaa, 1);
+    }
+
+    /// A source that the guest's version can enable.
+    pub(super) fn ready_source(&mut self, guest: usize) -> Option<usize> {
+        let major = self.guest(guest).major(Group::Interrupts);
+        let sources = self.guest(guest).sources.iter().enumerate();
+        let ready = sources.filter(|(_, s)| major == 1 || s.cookie_support);
+        let ready: Vec<usize> = ready.map(|(sysino, _)| sysino).collect();
+        ready.get(self.random.index_or_last(ready.len())).copied()
     }
 
     fn good_cookie(&mut self) -> u64 {
@@ -83,7 +108,7 @@ impl Generator {
 
     /// After a set often the get, whose number is one lower, or the get of
     /// what has to stay; after a new cookie also whether it is enabled.
-    fn look_at_source(&mut self, who: (usize, usize), function: u64, name: &[u64]) {
+    pub(super) fn look_at_source(&mut self, who: (usize, usize), function: u64, name: &[u64]) {
         let is_set = matches!(function, 0xa2 | 0xa4 | 0xa6 | 0xa8 | 0xaa | 0xac | 0xae);
         if is_set && self.random.one_in(2) {
             self.call(who, function - 1, name);
@@ -171,6 +196,8 @@ impl Generator {
                 self.random
                     .pick(&[cpus, cpus + 1, 8, 0x100, 1 << 32, 1 << 32 | 1, u64::MAX])
             }
+            // Often back to the first.
+            0xa6 | 0xae if self.random.one_in(4) => 0,
             0xa6 | 0xae => self.random.index_or_last(cpus as usize) as u64,
             0xa8 if self.random.one_in(6) => 0,
             0xa8 if stray => self.random.pick(&[0, 0, 1, 2, 0x400, 0x7fe, 0x7ff]),
@@ -195,9 +222,15 @@ impl Generator {
         (devhandle, devino)
     }
 
+    pub(super) fn raise_source(&mut self, guest: usize, sysino: usize) {
+        let source = &self.guest(guest).sources[sysino];
+        let name = [source.devhandle, source.devino];
+        self.event("raise", &name);
+    }
+
     /// What a driver does after an interrupt, more or less.
-    fn serve(&mut self, owner: usize, sysino: usize) {
-        let target = self.guest(owner).sources[sysino].target.unwrap_or(0);
+    pub(super) fn serve(&mut self, owner: usize, sysino: usize) {
+        let target = self.guest(owner).sources[sysino].target;
         let who = (owner, target);
         if let Some(ring) = self.guest(owner).cpus[target].queues[DEVICE_MONDO] {
             let last = (ring.tail + ring.size - 64) % ring.size;

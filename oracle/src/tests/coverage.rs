@@ -75,7 +75,7 @@ const PIECES: Range<usize> = 1..LENT_PAGES + 1;
 
 /// The numbers of guests, cpus and the like that the accepted lines of a
 /// generated session name, besides guest and cpu of every call and head write.
-const NUMBERS: [(&str, &str, Range<usize>); 30] = [
+const NUMBERS: [(&str, &str, Range<usize>); 31] = [
     ("call 80/14", "queue", 0..4),
     ("call 80/15", "queue", 0..4),
     ("call 80/14", "extent", 0..LENT_PAGES),
@@ -103,6 +103,7 @@ const NUMBERS: [(&str, &str, Range<usize>); 30] = [
     ("store", "extent", 0..LENT_PAGES),
     ("raise to 1", "guest", 0..4),
     ("raise to 1", "source", 0..16),
+    ("raise to 1", "target", 0..8),
     ("raise to 2", "guest", 0..4),
     ("raise to 2", "source", 0..16),
     ("raise to 2", "target", 0..8),

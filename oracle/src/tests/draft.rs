@@ -18,8 +18,7 @@ const STATISTICS: u64 = 0xd;
 const ABSENT_STATISTICS: u64 = 0xe;
 const ABSENT_GUEST: u64 = 0xf;
 const LATER_EXTENTS: u64 = 0x10;
-const NO_TARGET: u64 = 0xff;
-const BLANK_SOURCE: [u64; 7] = [0, 0, 0, 0, 0, NO_TARGET, 0];
+const BLANK_SOURCE: [u64; 7] = [0; 7];
 
 /// A field that is not here is 0. Rings that were never set have no field.
 #[derive(Default)]
@@ -28,8 +27,6 @@ pub struct Draft(HashMap<(u64, u64), u64>);
 impl Draft {
     pub fn of(host: &Host) -> Draft {
         let mut draft = Draft::default();
-        // The place behind the sources is not one of the model's.
-        (0..3).for_each(|i| draft.set(SOURCES + i, 5, NO_TARGET));
         draft.set(COUNTS, 0, host.tables.guests.len() as u64);
         if let Some(guest) = host.tables.guests.first() {
             draft.take_guest(guest);
@@ -91,10 +88,9 @@ impl Draft {
     }
 
     fn take_source(&mut self, place: u64, s: &Source) {
-        let target = s.target.map_or(NO_TARGET, |cpuid| cpuid as u64);
         let flags = [s.cookie_support, s.enabled].map(u64::from);
         let [support, enabled] = flags;
-        let state = s.state as u64;
+        let (state, target) = (s.state as u64, s.target as u64);
         self.set_all(
             place,
             &[
@@ -202,7 +198,7 @@ impl Draft {
                 && devino < 128
                 && enabled <= 1
                 && state <= 2
-                && (target == NO_TARGET || target < cpus)
+                && target < cpus
                 && (cookie == 0 || cookie > 2047 && major == 2 && support == 1)
                 && (enabled == 0 || major == 1 || major == 2 && cookie != 0)
         };

@@ -75,7 +75,7 @@ fn check_descriptor(guest: &Guest, descriptor: &TsbDescriptor) {
 
 fn check_source(guest: &Guest, source: &Source) {
     let major = guest.major(Group::Interrupts);
-    assert!(source.target.is_none_or(|target| target < guest.cpus.len()));
+    assert!(source.target < guest.cpus.len());
     assert!(source.cookie == 0 || source.cookie > 2047 && major == 2 && source.cookie_support);
     assert!(!source.enabled || major == 1 || major == 2 && source.cookie != 0);
 }
