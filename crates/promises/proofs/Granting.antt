@@ -9,7 +9,7 @@ use Rattle.rules.specs.declared.Plant.{Plant}
 use Rattle.rules.specs.declared.Refusal.{Refusal}
 use Rattle.rules.specs.declared.Refusal.the-variants.{EINVAL, EBADALIGN, ENORADDR}
 use Rattle.rules.specs.Real.{Sight}
-use Rattle.rules.specs.Rulings.{Ruling, refused, granted, Outcome, _or-refuse_then_, _grants_, if_then_else_}
+use Rattle.rules.specs.Rulings.{Ruling, refused, granted, Outcome, outcomeOf, _or-refuse_then_, _grants_, if_then_else_}
 use Rattle.rules.specs.Memory.{wholePages, wholeWord}
 use Rattle.rules.specs.Calls.{functionOf, admitted, perform, call}
 use Rattle.records.proofs.Told.{told-right}
@@ -37,6 +37,11 @@ module _ {A : Type 0} (P : A → Type 0) where
   -- of the value itself
   pub granted-has : (x : Ruling A) (a : A) → Granting P x → x ≡ granted a → P a
   granted-has x a h e = rw e at h
+
+-- What a plant's event comes to: what its rule grants, or what a refusal leaves.
+pub by-outcome : (P : Outcome → Type 0) (plant : Plant) (x : Ruling Outcome) → ((r : Refusal) → P (outcomeOf plant (refused r))) → Granting P x → P (outcomeOf plant x)
+by-outcome P plant (refused r) left h = left r
+by-outcome P plant (granted o) left h = h
 
 module _ (P : Outcome → Type 0) (v : ℕ → ℕ → Bool) (address : ℕ) where
   -- what is done to whole pages, or to a word, that are valid

@@ -6,6 +6,7 @@ pub mod Determined
 pub mod DeterminedCalls
 pub mod DeterminedInside
 pub mod DeterminedText
+pub mod Door
 pub mod Elsewhere
 pub mod Examples
 pub mod Extents

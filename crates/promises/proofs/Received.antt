@@ -5,8 +5,7 @@ use mathlib.Core.List.{List}
 use mathlib.Core.Logic.{_⊎_, inl, inr, ⊎-elim}
 use Prim.Native.Nat.{ℕ, _<_}
 use native.Mathlib.Omega.{arith}
-use lib.Dec.{ltb, eqb}
-use lib.ListN.{length}
+use lib.Dec.{eqb}
 use borrow.Author.Tests.{leb-true, ltb-true, eqb-false}
 use Rattle.rules.specs.declared.Answer.the-variants.{One, Refused}
 use Rattle.rules.specs.declared.Device.{Device}
@@ -16,21 +15,21 @@ use Rattle.rules.specs.declared.Owner.{Owner}
 use Rattle.rules.specs.declared.Plant.{Plant}
 use Rattle.rules.specs.declared.QueueRecord.{QueueRecord}
 use Rattle.rules.specs.declared.Refusal.{Refusal}
-use Rattle.rules.specs.declared.Refusal.the-variants.{BadTables, ShortMemory, NoCaller, NoSource}
+use Rattle.rules.specs.declared.Refusal.the-variants.{NoSource}
 use Rattle.rules.specs.declared.Tables.{Tables}
 use Rattle.rules.specs.Kept.{plantAt, cpuAt, queueAt, sourceAt}
-use Rattle.rules.specs.Rulings.{granted, Outcome, outcomeOf, says, _or-refuse_then_, _grants_, if_then_else_}
+use Rattle.rules.specs.Rulings.{granted, Outcome, outcomeOf, says, _grants_, if_then_else_}
 use Rattle.rules.specs.Queues.{indexOf, hasRoom, PutIn, putIn, put}
 use Rattle.rules.specs.Sources.{found, sysinoOf, deviceEntry, raiseAt, raise}
 use Rattle.rules.specs.Tables.{keepRules}
-use Rattle.rules.specs.Host.{plantRule, ownerOf, longEnough, putBack, answeredBy, hostOutcomeOf, hostRule, hostEvent}
+use Rattle.rules.specs.Host.{plantRule, ownerOf}
 use Rattle.rules.proofs.Scan.{first-below}
 use Rattle.tables.proofs.SoundTables.{plant-keeps}
 use Rattle.kept.proofs.Plants.{source-there}
 use Rattle.kept.proofs.Sources.{enabled-part}
 use Rattle.promises.specs.Words.{NoRoom, Received}
-use Rattle.promises.specs.Machine.{did, machineOf}
 use Rattle.promises.specs.Promises.{ReceivedWhy}
+use Rattle.promises.proofs.Door.{at-door}
 
 -- an entry that finds no room
 no-room : (q : QueueRecord) (entry : List ℕ) → putIn q entry .room ≡ false → NoRoom q
@@ -63,47 +62,30 @@ module _ (plant : Plant) (i : ℕ) where
       ⊎-elim (λ on. inl (eqb-false (sourceAt plant i .enabled) 1 on)) (λ room. inr (no-room _ _ room))
       (one-fails (eqb (sourceAt plant i .state) 2) (eqb (sourceAt plant i .enabled) 1) (put plant (sourceAt plant i .target) 0x3d (deviceEntry plant i) .room) _ _ refl e)
 
-module _ (tables : Tables) (memory : List ℕ) (d : Device) (keep : keepRules tables ≡ true) where
-  -- the guest that has the source
-  module _ (g : ℕ) (there : g < tables .guests) (owner : ownerOf tables (Event.Raise d) ≡ Owner.Guest g) where
-    abbrev plant : Plant
-    plant = plantAt tables g
+-- the guest that has the source
+module _ (tables : Tables) (d : Device) (keep : keepRules tables ≡ true) (g : ℕ) (there : g < tables .guests) (owner : ownerOf tables (Event.Raise d) ≡ Owner.Guest g) where
+  abbrev plant : Plant
+  plant = plantAt tables g
 
-    -- enabled is 0 or 1
-    off : (i : ℕ) → sysinoOf plant (d .devhandle) (d .devino) ≡ Found.At i → (sourceAt plant i .enabled ≡ 1 → ⊥) → sourceAt plant i .enabled ≡ 0
-    unfolding sysinoOf
-    off i at n =
-        let right = source-there _ plant (plant-keeps tables keep g there) i (first-below (plant .sources) i _ at) in
-        omega (arith, n, leb-true (sourceAt plant i .enabled) 1 (enabled-part plant (sourceAt plant i) right))
+  -- enabled is 0 or 1
+  off : (i : ℕ) → sysinoOf plant (d .devhandle) (d .devino) ≡ Found.At i → (sourceAt plant i .enabled ≡ 1 → ⊥) → sourceAt plant i .enabled ≡ 0
+  unfolding sysinoOf
+  off i at n =
+      let right = source-there _ plant (plant-keeps tables keep g there) i (first-below (plant .sources) i _ at) in
+      omega (arith, n, leb-true (sourceAt plant i .enabled) 1 (enabled-part plant (sourceAt plant i) right))
 
-    by-source : (f : Found) → sysinoOf plant (d .devhandle) (d .devino) ≡ f → outcomeOf plant (found NoSource f grants λ i. raiseAt plant i) .answer ≡ One 1 → Received tables d
-    by-source Found.Nothing at e = never NoSource e
-    by-source (Found.At i) at e = record {
-      guest = g;
-      source = i;
-      owner = owner;
-      found = at;
-      why = ⊎-elim (λ n. inl (off i at n)) inr (not-delivered plant i e);
-    }
-
-  by-owner : (w : Owner) → ownerOf tables (Event.Raise d) ≡ w → hostOutcomeOf tables memory (answeredBy tables memory (Event.Raise d) w) .answer ≡ One 1 → Received tables d
-  unfolding plantRule raise
-  by-owner Owner.Nobody q e = never NoSource e
-  by-owner (Owner.Guest g) q e = go (ltb g (tables .guests)) refl e
-    where
-      go : (t : Bool) → ltb g (tables .guests) ≡ t
-          → hostOutcomeOf tables memory (t or-refuse NoCaller then granted (putBack tables memory g (did (machineOf tables memory g) (Event.Raise d)))) .answer ≡ One 1
-          → Received tables d
-      go true h e = by-source g (ltb-true g (tables .guests) h) q _ refl e
-      go false h e = never NoCaller e
-
-by-door : (tables : Tables) (memory : List ℕ) (d : Device) (t u : Bool) → keepRules tables ≡ t
-    → hostOutcomeOf tables memory (t or-refuse BadTables then u or-refuse ShortMemory then answeredBy tables memory (Event.Raise d) (ownerOf tables (Event.Raise d))) .answer ≡ One 1
-    → Received tables d
-by-door tables memory d true true keep e = by-owner tables memory d keep (ownerOf tables (Event.Raise d)) refl e
-by-door tables memory d true false keep e = never ShortMemory e
-by-door tables memory d false u keep e = never BadTables e
+  by-source : (f : Found) → sysinoOf plant (d .devhandle) (d .devino) ≡ f → outcomeOf plant (found NoSource f grants λ i. raiseAt plant i) .answer ≡ One 1 → Received tables d
+  by-source Found.Nothing at e = never NoSource e
+  by-source (Found.At i) at e = record {
+    guest = g;
+    source = i;
+    owner = owner;
+    found = at;
+    why = ⊎-elim (λ n. inl (off i at n)) inr (not-delivered plant i e);
+  }
 
 pub received-why : ReceivedWhy
-unfolding hostEvent hostRule
-received-why tables memory d e = by-door tables memory d (keepRules tables) (longEnough tables (length memory)) refl e
+unfolding plantRule raise
+received-why tables memory d =
+    at-door (λ o. o .answer ≡ One 1 → Received tables d) tables memory (Event.Raise d) (λ r e. never r e) (λ g keep there owner e.
+    by-source tables d keep g (ltb-true g (tables .guests) there) owner _ refl e)

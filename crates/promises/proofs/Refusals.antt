@@ -39,6 +39,7 @@ use Rattle.rules.specs.Host.{HostOutcome, plantRule, ownerOf, longEnough, putBa
 use Rattle.promises.specs.Words.{Unchanged, StatisticsCall, Clears, cleared, Excepted}
 use Rattle.promises.specs.Machine.{did, machineOf}
 use Rattle.promises.specs.Promises.{RefusalChangesNothing, RefusedStatistics}
+use Rattle.promises.proofs.Door.{at-door}
 use Rattle.promises.proofs.Granting.{Granting, by-then, by-if, by-value, by-pages, by-word, by-call}
 
 -- No rule grants an outcome that answers a refusal r which is not excepted: what answers r is a ruling that refuses.
@@ -156,33 +157,15 @@ pub puts-nothing : (tables : Tables) (memory : List ℕ) (g : ℕ) (o : Outcome)
 unfolding apply
 puts-nothing tables memory g o p w = rw (p, w) (ap (λ l. record { guests = tables .guests; guest = l }) (set-getD (tables .guest) g hollowGuest), refl)
 
-module _ (tables : Tables) (memory : List ℕ) (event : Event) (r : Refusal) (other : Excepted event r → ⊥) where
-  -- an outcome that leaves the host if it answers r
-  abbrev Still : HostOutcome → Type 0
-  Still o = o .answer ≡ Refused r → Unchanged tables memory o
-
-  by-owner : (w : Owner) → Granting Still (answeredBy tables memory event w)
-  by-owner Owner.Nobody = tt
-  by-owner (Owner.Guest g) =
-      let plant : Plant = plantAt tables g in
-      let sight : Sight = sightOf (extentsOf tables g) memory in
-      by-then Still (ltb g (tables .guests)) NoCaller _ (λ e.
-      let s = leaves r plant (plantRule sight plant event) (event-apart r plant sight event other) e in
-      puts-nothing tables memory g (did (machineOf tables memory g) event) (s .0) (s .1))
-
-  by-door : Granting Still (hostRule tables memory event)
-  unfolding hostRule
-  by-door = by-then Still (keepRules tables) BadTables _ (by-then Still (longEnough tables (length memory)) ShortMemory _ (by-owner (ownerOf tables event)))
-
-  host-still : (x : Ruling HostOutcome) → Granting Still x → Still (hostOutcomeOf tables memory x)
-  host-still (refused s) h = λ e. (refl, refl)
-  host-still (granted o) h = h
-
 -- For every tables, memory and event, an answer that is a refusal leaves the tables and every byte of memory as they were, if it
 -- is not excepted.
 pub refusal-changes-nothing : RefusalChangesNothing
-unfolding hostEvent
-refusal-changes-nothing tables memory event r other = host-still tables memory event r other (hostRule tables memory event) (by-door tables memory event r other)
+refusal-changes-nothing tables memory event r other =
+    at-door (λ o. o .answer ≡ Refused r → Unchanged tables memory o) tables memory event (λ s e. (refl, refl)) (λ g _ _ _ e.
+    let plant : Plant = plantAt tables g in
+    let sight : Sight = sightOf (extentsOf tables g) memory in
+    let s = leaves r plant (plantRule sight plant event) (event-apart r plant sight event other) e in
+    puts-nothing tables memory g (did (machineOf tables memory g) event) (s .0) (s .1))
 
 -- What the two excepted of 0x102 do.
 module _ (tables : Tables) (memory : List ℕ) (c : Call) (r : Refusal) (clears : Clears r) where

@@ -1,35 +1,33 @@
 -- Not vacuous: the paper's mondo to the list 1, 1, where cpu 1's ring has n 2, is left with EWOULDBLOCK, and is ready to be sent again
 -- once cpu 1 has taken its entry.
 use mathlib.Core.Path.{_≡_, refl, ap}
-use mathlib.Core.Bool.{Bool, true, false, _&&_}
+use mathlib.Core.Bool.{_&&_}
 use mathlib.Core.List.{List, [], _∷_}
 use Prim.Native.Nat.{ℕ, zero, suc, _+_, _%_, _≤_, _<_}
 use native.Mathlib.Omega.{arith}
 use lib.Dec.{leb, ltb, eqb}
-use lib.ListN.{length}
 use Rattle.rules.specs.declared.Answer.the-variants.{Done, Refused}
 use Rattle.rules.specs.declared.Call.{Call}
 use Rattle.rules.specs.declared.Event.{Event}
 use Rattle.rules.specs.declared.HeadWrite.{HeadWrite}
-use Rattle.rules.specs.declared.Owner.{Owner}
 use Rattle.rules.specs.declared.Plant.{Plant}
 use Rattle.rules.specs.declared.QueueRecord.{QueueRecord}
-use Rattle.rules.specs.declared.Refusal.{Refusal}
-use Rattle.rules.specs.declared.Refusal.the-variants.{EINVAL, EBADALIGN, EWOULDBLOCK, BadTables, ShortMemory, NoCaller}
+use Rattle.rules.specs.declared.Refusal.the-variants.{EINVAL, EBADALIGN, EWOULDBLOCK, NoCaller}
 use Rattle.rules.specs.declared.Tables.{Tables}
-use Rattle.rules.specs.Kept.{plantAt, cpuAt, queueAt, present, extentsOf, withQueue, withHead}
+use Rattle.rules.specs.Kept.{plantAt, cpuAt, queueAt, present, extentsOf}
 use Rattle.rules.specs.Real.{Sight, sightOf, byteAt, apply}
-use Rattle.rules.specs.Rulings.{Ruling, Outcome, outcomeOf, _or-refuse_then_, _grants_, done}
+use Rattle.rules.specs.Rulings.{Outcome}
 use Rattle.rules.specs.Queues.{isQueue, indexOf, ringOf, forward, write-head}
 use Rattle.rules.specs.Calls.{functionOf, fastFunction}
-use Rattle.rules.specs.Tables.{keepRules}
-use Rattle.rules.specs.Host.{HostOutcome, plantRule, ownerOf, longEnough, answeredBy, hostRule, hostOutcomeOf, hostEvent}
+use Rattle.rules.specs.Host.{HostOutcome, plantRule, hostEvent}
 use Rattle.rules.proofs.Computing.{computing}
 use Rattle.rules.proofs.Worked.{call, callBy, headBy, storing}
 use Rattle.rules.proofs.Examples.{start, next, after}
 use Rattle.promises.specs.Words.{tablesAfter, memoryAfter}
 use Rattle.promises.specs.Machine.{Machine, machineOf, guestAfter}
 use Rattle.promises.specs.Resent.{MondoCall, times, listOf, mondoRing, roomIn, ringBase, ringSize, Apart, ApartFromRing, LieApart, ReadyAgain}
+use Rattle.promises.proofs.Door.{at-door}
+use Rattle.promises.proofs.Granting.{Granting, by-then, by-value, by-outcome}
 use Rattle.promises.proofs.NotVacuous.{Passing, passes-after, worked-passes}
 use Rattle.promises.proofs.Passing.{passes-next, steady-after}
 use Rattle.promises.proofs.Resent.{sent-again}
@@ -86,36 +84,24 @@ abbrev second : Machine
 second = guestAfter (sentOnce .tables) (sentOnce .memory) 0 taken
 
 -- a head write leaves memory, on every host
-module _ (tables : Tables) (memory : List ℕ) (h : HeadWrite) where
-  abbrev Silent : Ruling Outcome → Type 0
-  Silent x = outcomeOf (plantAt tables (h .guest)) x .writes ≡ []
+abbrev Silent : Outcome → Type 0
+Silent o = o .writes ≡ []
 
-  silent-then : (t : Bool) (r : Refusal) (x : Ruling Outcome) → Silent x → Silent (t or-refuse r then x)
-  silent-then true r x e = e
-  silent-then false r x e = refl
+head-silent : (sight : Sight) (plant : Plant) (h : HeadWrite) → Granting Silent (plantRule sight plant (Event.Head h))
+unfolding plantRule write-head
+head-silent sight plant h =
+    by-then Silent (ltb (h .cpu) (plant .cpus)) NoCaller _
+    (by-then Silent (isQueue (h .queue)) EINVAL _
+    (by-value Silent (ringOf (queueAt (cpuAt plant (h .cpu)) (indexOf (h .queue)))) _ (λ ring _.
+    by-then Silent (eqb (h .value % 64) 0) EBADALIGN _
+    (by-then Silent (ltb (h .value) (ring .size) && leb (forward ring (h .value)) (forward ring (ring .tail))) EINVAL _ refl))))
 
-  silent : (sight : Sight) → Silent (plantRule sight (plantAt tables (h .guest)) (Event.Head h))
-  unfolding plantRule write-head
-  silent sight =
-      let plant : Plant = plantAt tables (h .guest) in
-      silent-then (ltb (h .cpu) (plant .cpus)) NoCaller _ (silent-then (isQueue (h .queue)) EINVAL _ (by-record (queueAt (cpuAt plant (h .cpu)) (indexOf (h .queue)))))
-    where
-      by-record : (held : QueueRecord) → Silent (ringOf held grants λ ring.
-          eqb (h .value % 64) 0 or-refuse EBADALIGN then
-          (ltb (h .value) (ring .size) && leb (forward ring (h .value)) (forward ring (ring .tail))) or-refuse EINVAL then
-          done (withQueue (plantAt tables (h .guest)) (h .cpu) (indexOf (h .queue)) (QueueRecord.Set (withHead ring (h .value)))))
-      by-record QueueRecord.Unset = refl
-      by-record (QueueRecord.Set ring) = silent-then (eqb (h .value % 64) 0) EBADALIGN _ (silent-then (ltb (h .value) (ring .size) && leb (forward ring (h .value)) (forward ring (ring .tail))) EINVAL _ refl)
-
-  head-leaves : hostEvent tables memory (Event.Head h) .memory ≡ memory
-  unfolding hostEvent hostRule ownerOf apply
-  head-leaves = go (keepRules tables) (longEnough tables (length memory)) (ltb (h .guest) (tables .guests)) refl
-    where
-      go : (t u w : Bool) → ltb (h .guest) (tables .guests) ≡ w → hostOutcomeOf tables memory (t or-refuse BadTables then u or-refuse ShortMemory then answeredBy tables memory (Event.Head h) (Owner.Guest (h .guest))) .memory ≡ memory
-      go true true true q = rw (q, silent (sightOf (extentsOf tables (h .guest)) memory)) refl
-      go true true false q = rw q
-      go true false w q = refl
-      go false u w q = refl
+head-leaves : (tables : Tables) (memory : List ℕ) (h : HeadWrite) → hostEvent tables memory (Event.Head h) .memory ≡ memory
+unfolding apply
+head-leaves tables memory h =
+    at-door (λ o. o .memory ≡ memory) tables memory (Event.Head h) (λ r. refl) (λ g _ _ _.
+    let sight : Sight = sightOf (extentsOf tables g) memory in
+    ap (apply (extentsOf tables g) memory) (by-outcome Silent (plantAt tables g) (plantRule sight (plantAt tables g) (Event.Head h)) (λ r. refl) (head-silent sight (plantAt tables g) h)))
 
 extents-same : extentsOf (tablesAfter (sentOnce .tables) (sentOnce .memory) taken) 0 ≡ extentsOf (sentOnce .tables) 0
 extents-same = ap present (steady-after taken (sentOnce .tables) (sentOnce .memory) (passes-next (listed .tables) (listed .memory) ready-host (Event.Call toOneTwice)) .extents 0)

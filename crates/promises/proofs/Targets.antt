@@ -12,7 +12,6 @@ use Rattle.rules.specs.declared.Event.{Event}
 use Rattle.rules.specs.declared.Function.{Function}
 use Rattle.rules.specs.declared.Group.{Group}
 use Rattle.rules.specs.declared.Guest.{Guest}
-use Rattle.rules.specs.declared.Owner.{Owner}
 use Rattle.rules.specs.declared.Plant.{Plant}
 use Rattle.rules.specs.declared.Refusal.the-variants.{EINVAL, EBADALIGN, ENORADDR, ENOCPU, ENOTSUPPORTED, NoCaller, NoSource}
 use Rattle.rules.specs.declared.Source.{Source}
@@ -21,7 +20,7 @@ use Rattle.rules.specs.declared.Tables.{Tables}
 use Rattle.rules.specs.Scan.{someBelow}
 use Rattle.rules.specs.Kept.{blankSource, hollowGuest, plantAt, extentsOf, cpuAt, queueAt, sourceAt, withVersions, withEnabled, withState, withCookie, withSource, withQueue, withCtx0, withCtxnon0, withStatistics}
 use Rattle.rules.specs.Real.{Sight, sightOf, bytesFrom}
-use Rattle.rules.specs.Rulings.{Ruling, refused, granted, Outcome, outcomeOf, _or-refuse_then_, if_then_else_}
+use Rattle.rules.specs.Rulings.{Ruling, refused, granted, Outcome, if_then_else_}
 use Rattle.rules.specs.Versions.{groupOf, known, newest, majorOf, withMajor, disabled, allDisabled, negotiated, set-version, get-version}
 use Rattle.rules.specs.Queues.{isQueue, indexOf, newRing, put, forward, ringOf, cpu-qconf, cpu-qinfo, cpu-myid, write-head}
 use Rattle.rules.specs.Mondo.{listedCpu, listedCpus, passedOver, isCaller, isStranger, Sent, sendOne, sendAll, cpu-mondo-send}
@@ -29,14 +28,13 @@ use Rattle.rules.specs.Tsb.{newTsbs, mmu-tsb-ctx0, mmu-tsb-ctxnon0}
 use Rattle.rules.specs.Memory.{mem-scrub, mem-sync, store-word, load-word, newStatistics, setOrClear, mmustat-conf, mmustat-info}
 use Rattle.rules.specs.Sources.{found, sysinoOf, deviceEntry, get-enabled, set-enabled, get-state, set-state, get-target, get-cookie, set-cookie, intr-devino2sysino, sourceCall, cookieCall, intr, vintr, raiseAt, raise}
 use Rattle.rules.specs.Calls.{functionOf, perform}
-use Rattle.rules.specs.Host.{HostOutcome, plantRule, ownerOf, putBack, answeredBy, hostOutcomeOf, hostEvent}
+use Rattle.rules.specs.Host.{HostOutcome, plantRule, putBack, hostEvent}
 use Rattle.kept.proofs.Lists.{set-either}
-use Rattle.kept.proofs.Settled.{event-settled}
 use Rattle.promises.specs.Words.{targetAt, TargetFunction, SetsTarget}
 use Rattle.promises.specs.Machine.{did, machineOf}
 use Rattle.promises.specs.Promises.{FirstTargets}
-use Rattle.promises.proofs.Granting.{Granting, by-then, by-if, by-value, by-pages, by-word, by-call}
-use Rattle.promises.proofs.Isolation.{every-host}
+use Rattle.promises.proofs.Door.{at-door}
+use Rattle.promises.proofs.Granting.{Granting, by-then, by-if, by-value, by-outcome, by-pages, by-word, by-call}
 use Rattle.promises.proofs.LoadedTargets.{loaded-zero}
 
 -- a mondo leaves the sources
@@ -176,11 +174,6 @@ module _ (plant : Plant) where
   event-aimed sight (Event.Load l) other = by-word Aimed (sight .valid) (l .address) _ (λ i. refl)
   event-aimed sight (Event.Store s) other = by-word Aimed (sight .valid) (s .address) _ (λ i. refl)
 
-  -- a refusal leaves the record
-  outcome-aimed : (x : Ruling Outcome) → Granting Aimed x → Aimed (outcomeOf plant x)
-  outcome-aimed (refused r) h = λ i. refl
-  outcome-aimed (granted o) h = h
-
 -- The host's tables after: the owner's place holds its plant's outcome, every other place what it held.
 module _ (tables : Tables) (memory : List ℕ) (event : Event) (other : SetsTarget event → ⊥) (g i : ℕ) where
   abbrev Same : HostOutcome → Type 0
@@ -191,21 +184,10 @@ module _ (tables : Tables) (memory : List ℕ) (event : Event) (other : SetsTarg
       let plant : Plant = plantAt tables h in
       let sight : Sight = sightOf (extentsOf tables h) memory in
       set-either (λ (x : Guest). sourceAt (x .plant) i .target ≡ targetAt tables g i) (tables .guest) h g _ hollowGuest
-      (λ q. rw q (outcome-aimed plant (plantRule sight plant event) (event-aimed plant sight event other) i)) refl
-
-  owner-same : (w : Owner) → Same (hostOutcomeOf tables memory (answeredBy tables memory event w))
-  owner-same Owner.Nobody = refl
-  owner-same (Owner.Guest h) = go (ltb h (tables .guests))
-    where
-      go : (t : Bool) → Same (hostOutcomeOf tables memory (t or-refuse NoCaller then granted (putBack tables memory h (did (machineOf tables memory h) event))))
-      go true = did-same h
-      go false = refl
+      (λ q. rw q (by-outcome (Aimed plant) plant (plantRule sight plant event) (λ r i. refl) (event-aimed plant sight event other) i)) refl
 
   event-same : Same (hostEvent tables memory event)
-  event-same =
-      every-host tables memory event {P = Same}
-      (λ p. rw (event-settled tables memory event (p .keep) (p .long)) (owner-same (ownerOf tables event)))
-      (λ o n. ap (λ (t : Tables). targetAt t g i) (n .0))
+  event-same = at-door Same tables memory event (λ r. refl) (λ h _ _ _. did-same h)
 
 pub first-targets : FirstTargets
 first-targets = record { at-first = loaded-zero; stays = event-same }
