@@ -1,5 +1,5 @@
 -- Promise: a mondo send whose list reads nothing but 0xffff does nothing.
-use mathlib.Core.Path.{_≡_, refl, subst}
+use mathlib.Core.Path.{_≡_, refl}
 use mathlib.Core.Bool.{true, _&&_}
 use mathlib.Core.List.{List, [], _∷_}
 use Prim.Native.Nat.{ℕ, _+_, _*_, _%_}
@@ -15,14 +15,14 @@ use Rattle.rules.specs.Real.{Sight, sightOf, bytesFrom}
 use Rattle.rules.specs.Rulings.{Ruling, Outcome, outcomeOf, _or-refuse_then_, done}
 use Rattle.rules.specs.Mondo.{listedCpu, listedCpus, isCaller, isStranger, sendOne, sendAll, cpu-mondo-send}
 use Rattle.rules.specs.Calls.{perform}
-use Rattle.rules.specs.Host.{plantRule, ownerOf, putBack, hostEvent}
+use Rattle.rules.specs.Host.{plantRule, hostEvent}
 use Rattle.rules.proofs.Listed.{Each, listed-each}
 use Rattle.rules.proofs.Scan.{none-of}
 use Rattle.promises.specs.Words.{Unchanged}
 use Rattle.promises.specs.Machine.{did, machineOf}
 use Rattle.promises.specs.Resent.{MondoCall, AllMarked}
 use Rattle.promises.specs.Promises.{AllMarkedSends}
-use Rattle.promises.proofs.Door.{at-door}
+use Rattle.promises.proofs.Door.{at-call}
 use Rattle.promises.proofs.Granting.{Granting, by-then, by-outcome, by-call}
 use Rattle.promises.proofs.Refusals.{puts-nothing}
 
@@ -65,15 +65,11 @@ module _ (sight : Sight) (plant : Plant) (c : Call) (marked : AllMarked sight c)
       by-outcome Nothing plant (plantRule sight plant (Event.Call c)) (λ r. (refl, refl))
       (by-then Nothing (ltb (c .cpu) (plant .cpus)) NoCaller _ (by-call Nothing sight plant c (rw (f, by-tests) performs-nothing)))
 
--- the owner is the guest that the call names
 leaves-all : (tables : Tables) (memory : List ℕ) (c : Call) → MondoCall c → AllMarked (machineOf tables memory (c .guest) .sight) c → Unchanged tables memory (hostEvent tables memory (Event.Call c))
-unfolding ownerOf
 leaves-all tables memory c f marked =
-    at-door (Unchanged tables memory) tables memory (Event.Call c) (λ r. (refl, refl)) (λ g _ _ owner.
-    let named : c .guest ≡ g = cc in
     let s = does-nothing (sightOf (extentsOf tables (c .guest)) memory) (plantAt tables (c .guest)) c marked f in
-    subst (λ g. Unchanged tables memory (putBack tables memory g (did (machineOf tables memory g) (Event.Call c)))) named
-    (puts-nothing tables memory (c .guest) (did (machineOf tables memory (c .guest)) (Event.Call c)) (s .0) (s .1)))
+    at-call (Unchanged tables memory) tables memory c (λ _ _. (refl, refl))
+    (puts-nothing tables memory (c .guest) (did (machineOf tables memory (c .guest)) (Event.Call c)) (s .0) (s .1))
 
 pub all-marked : AllMarkedSends
 all-marked = record { rule = by-tests; unchanged = leaves-all }

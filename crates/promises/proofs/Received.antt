@@ -87,5 +87,5 @@ module _ (tables : Tables) (d : Device) (keep : keepRules tables ≡ true) (g : 
 pub received-why : ReceivedWhy
 unfolding plantRule raise
 received-why tables memory d =
-    at-door (λ o. o .answer ≡ One 1 → Received tables d) tables memory (Event.Raise d) (λ r e. never r e) (λ g keep there owner e.
+    at-door (λ o. o .answer ≡ One 1 → Received tables d) tables memory (Event.Raise d) (λ r _ e. never r e) (λ g keep there owner e.
     by-source tables d keep g (ltb-true g (tables .guests) there) owner _ refl e)

@@ -6,20 +6,19 @@ use mathlib.Core.List.{List, []}
 use mathlib.Core.Logic.{inl, inr, ⊎-elim}
 use Prim.Native.Nat.{ℕ, _*_, _%_}
 use lib.Dec.{leb, ltb, eqb}
-use lib.ListN.{length}
 use lib.Seq.{set-getD}
-use borrow.Author.Tests.{eqb-false}
+use native.Mathlib.Omega.{arith}
+use borrow.Author.Tests.{eqb-false, ne-eqb}
 use Rattle.rules.specs.declared.Answer.{Answer}
 use Rattle.rules.specs.declared.Answer.the-variants.{Done, One, Two, Refused}
 use Rattle.rules.specs.declared.Call.{Call}
 use Rattle.rules.specs.declared.Event.{Event}
 use Rattle.rules.specs.declared.CookieCall.{CookieCall}
 use Rattle.rules.specs.declared.Function.{Function}
-use Rattle.rules.specs.declared.Owner.{Owner}
 use Rattle.rules.specs.declared.Plant.{Plant}
 use Rattle.rules.specs.declared.QueueRecord.{QueueRecord}
 use Rattle.rules.specs.declared.Refusal.{Refusal}
-use Rattle.rules.specs.declared.Refusal.the-variants.{EINVAL, EBADALIGN, ENORADDR, ENOCPU, EBADTRAP, ENOTSUPPORTED, EWOULDBLOCK, NoCaller, NoSource, BadTables, ShortMemory}
+use Rattle.rules.specs.declared.Refusal.the-variants.{EINVAL, EBADALIGN, ENORADDR, ENOCPU, EBADTRAP, ENOTSUPPORTED, EWOULDBLOCK, NoCaller, NoSource}
 use Rattle.rules.specs.declared.SourceCall.{SourceCall}
 use Rattle.rules.specs.declared.Tables.{Tables}
 use Rattle.rules.specs.Scan.{someBelow}
@@ -34,12 +33,11 @@ use Rattle.rules.specs.Tsb.{newTsbs, mmu-tsb-ctx0, mmu-tsb-ctxnon0}
 use Rattle.rules.specs.Memory.{mem-scrub, mem-sync, store-word, load-word, newStatistics, setOrClear, mmustat-conf, mmustat-info}
 use Rattle.rules.specs.Sources.{found, sysinoOf, deviceEntry, get-enabled, set-enabled, get-state, set-state, get-target, set-target, get-cookie, set-cookie, intr-devino2sysino, sourceCall, cookieCall, intr, vintr, raiseAt, raise}
 use Rattle.rules.specs.Calls.{functionOf, admitted, perform, call}
-use Rattle.rules.specs.Tables.{keepRules}
-use Rattle.rules.specs.Host.{HostOutcome, plantRule, ownerOf, longEnough, putBack, answeredBy, hostOutcomeOf, hostRule, hostEvent}
+use Rattle.rules.specs.Host.{HostOutcome, plantRule, putBack}
 use Rattle.promises.specs.Words.{Unchanged, StatisticsCall, Clears, cleared, Excepted}
 use Rattle.promises.specs.Machine.{did, machineOf}
 use Rattle.promises.specs.Promises.{RefusalChangesNothing, RefusedStatistics}
-use Rattle.promises.proofs.Door.{at-door}
+use Rattle.promises.proofs.Door.{at-door, at-call}
 use Rattle.promises.proofs.Granting.{Granting, by-then, by-if, by-value, by-pages, by-word, by-call}
 
 -- No rule grants an outcome that answers a refusal r which is not excepted: what answers r is a ruling that refuses.
@@ -161,7 +159,7 @@ puts-nothing tables memory g o p w = rw (p, w) (ap (λ l. record { guests = tabl
 -- is not excepted.
 pub refusal-changes-nothing : RefusalChangesNothing
 refusal-changes-nothing tables memory event r other =
-    at-door (λ o. o .answer ≡ Refused r → Unchanged tables memory o) tables memory event (λ s e. (refl, refl)) (λ g _ _ _ e.
+    at-door (λ o. o .answer ≡ Refused r → Unchanged tables memory o) tables memory event (λ _ _ e. (refl, refl)) (λ g _ _ _ e.
     let plant : Plant = plantAt tables g in
     let sight : Sight = sightOf (extentsOf tables g) memory in
     let s = leaves r plant (plantRule sight plant event) (event-apart r plant sight event other) e in
@@ -172,13 +170,13 @@ module _ (tables : Tables) (memory : List ℕ) (c : Call) (r : Refusal) (clears 
   abbrev plant : Plant
   plant = plantAt tables (c .guest)
 
-  -- a ruling that clears the statistics address and nothing else, if it answers r
-  abbrev Clearing : Ruling HostOutcome → Type 0
-  Clearing x = hostOutcomeOf tables memory x .answer ≡ Refused r → (hostOutcomeOf tables memory x .tables ≡ cleared tables c) × (hostOutcomeOf tables memory x .memory ≡ memory)
+  -- an outcome that clears the statistics address and nothing else, if it answers r
+  abbrev Clearing : HostOutcome → Type 0
+  Clearing o = o .answer ≡ Refused r → (o .tables ≡ cleared tables c) × (o .memory ≡ memory)
 
   -- the plant's ruling, put back
-  abbrev given : Ruling Outcome → Ruling HostOutcome
-  given x = granted (putBack tables memory (c .guest) (outcomeOf plant x))
+  abbrev given : Ruling Outcome → HostOutcome
+  given x = putBack tables memory (c .guest) (outcomeOf plant x)
 
   -- no other refusal clears: their numbers differ
   never : (s : Refusal) → eqb (statusOf s) 8 ≡ false → eqb (statusOf s) 2 ≡ false → Refused s ≡ Refused r → ⊥
@@ -201,16 +199,9 @@ module _ (tables : Tables) (memory : List ℕ) (c : Call) (r : Refusal) (clears 
       go true false = λ e. absurd (never EBADTRAP refl refl e)
       go false u = λ e. absurd (never NoCaller refl refl e)
 
-  event-clearing : StatisticsCall (Event.Call c) → (t u w : Bool) → ltb (c .guest) (tables .guests) ≡ w
-      → Clearing (t or-refuse BadTables then u or-refuse ShortMemory then answeredBy tables memory (Event.Call c) (Owner.Guest (c .guest)))
-  unfolding statusOf
-  event-clearing q true true true e = rw e (call-clearing (sightOf (extentsOf tables (c .guest)) memory) q)
-  event-clearing q true true false e = rw e (λ e. absurd (never NoCaller refl refl e))
-  event-clearing q true false w e = λ e. absurd (never ShortMemory refl refl e)
-  event-clearing q false u w e = λ e. absurd (never BadTables refl refl e)
-
 -- EBADALIGN and ENORADDR of 0x102 set the statistics address of the calling cpu to 0, and change nothing else.
 pub refused-statistics : RefusedStatistics
-unfolding hostEvent hostRule ownerOf
 refused-statistics tables memory c r q clears =
-    event-clearing tables memory c r clears q (keepRules tables) (longEnough tables (length memory)) (ltb (c .guest) (tables .guests)) refl
+    at-call (Clearing tables memory c r clears) tables memory c
+    (λ s h e. absurd (never tables memory c r clears s (ne-eqb (statusOf s) 8 (λ w. omega arith)) (ne-eqb (statusOf s) 2 (λ w. omega arith)) e))
+    (call-clearing tables memory c r clears (sightOf (extentsOf tables (c .guest)) memory) q)

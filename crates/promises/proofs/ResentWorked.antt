@@ -99,7 +99,7 @@ head-silent sight plant h =
 head-leaves : (tables : Tables) (memory : List ℕ) (h : HeadWrite) → hostEvent tables memory (Event.Head h) .memory ≡ memory
 unfolding apply
 head-leaves tables memory h =
-    at-door (λ o. o .memory ≡ memory) tables memory (Event.Head h) (λ r. refl) (λ g _ _ _.
+    at-door (λ o. o .memory ≡ memory) tables memory (Event.Head h) (λ _ _. refl) (λ g _ _ _.
     let sight : Sight = sightOf (extentsOf tables g) memory in
     ap (apply (extentsOf tables g) memory) (by-outcome Silent (plantAt tables g) (plantRule sight (plantAt tables g) (Event.Head h)) (λ r. refl) (head-silent sight (plantAt tables g) h)))
 

@@ -187,7 +187,7 @@ module _ (tables : Tables) (memory : List ℕ) (event : Event) (other : SetsTarg
       (λ q. rw q (by-outcome (Aimed plant) plant (plantRule sight plant event) (λ r i. refl) (event-aimed plant sight event other) i)) refl
 
   event-same : Same (hostEvent tables memory event)
-  event-same = at-door Same tables memory event (λ r. refl) (λ h _ _ _. did-same h)
+  event-same = at-door Same tables memory event (λ _ _. refl) (λ h _ _ _. did-same h)
 
 pub first-targets : FirstTargets
 first-targets = record { at-first = loaded-zero; stays = event-same }
