@@ -1,11 +1,12 @@
 // A guest's part of the image: its three counts, then its extents and its sources.
 ghost use mathlib.Core.Path.{_≡_};
 ghost use Prim.Native.Nat.{_+_, _*_, _^_, _<_, _≤_};
+ghost use Rattle.rules.specs.declared.ImageRefusal.the-variants.{HeaderOrCount};
 ghost use Rattle.rules.specs.Limits.{extentLimit, sourceLimit};
 ghost use Rattle.rules.specs.Kept.{blankExtent, blankSource};
 ghost use Rattle.rules.specs.Rulings.{refused};
 ghost use Rattle.rules.specs.Widths.{countsBits, extentBits, sourceBits};
-ghost use Rattle.rules.specs.Image.{_bits-at_of_from_to_, readExtent, readSource, filled, readLists, readGuest};
+ghost use Rattle.rules.specs.Image.{_bits-at_of_from_to_else_, readExtent, readSource, filled, readLists, readGuest};
 ghost use Rattle.image.specs.Answers.{there, countAs, guestAs};
 use bits::Field;
 use records::blank;
@@ -14,8 +15,8 @@ use rules::EXTENTS;
 use rules::Extent;
 use rules::Extents;
 use rules::Guest;
+use rules::ImageRefusal;
 use rules::Plant;
-use rules::Refusal;
 use rules::SOURCES;
 use rules::Source;
 use rules::widths::COOKIE_SUPPORT_WIDTH;
@@ -47,12 +48,12 @@ const COOKIE_SUPPORT_AT: u64 = (DEVHANDLE_WIDTH + DEVINO_WIDTH) as u64;
 // A count, or why the image is refused.
 pub enum Count {
     Is(u8),
-    Refused(Refusal),
+    Refused(ImageRefusal),
 }
 
 pub enum Verdict {
     Granted,
-    Refused(Refusal),
+    Refused(ImageRefusal),
 }
 
 // A guest as it was read; blank where the image is refused.
@@ -61,20 +62,20 @@ pub struct GuestRead {
     pub guest: Guest,
 }
 
-// The n bits from bit `at` on, which are from lo to hi.
-pub(crate) fn read_count(s: &[u8], at: u64, n: u32, lo: u8, hi: u8) -> Count
+// The n bits from bit `at` on, which are from lo to hi. Outside of these the refusal tells guest g.
+pub(crate) fn read_count(s: &[u8], at: u64, n: u32, lo: u8, hi: u8, g: u8) -> Count
     requires { ⌜ n ≤ 28 ⌝ }
-    ensures { λ r. ⌜ r ≡ countAs (n bits-at at of now (s .entry) from lo to hi) ⌝ }
+    ensures { λ r. ⌜ r ≡ countAs (n bits-at at of now (s .entry) from lo to hi else HeaderOrCount g) ⌝ }
 {
     let field = bits::field_at(s, at, n);
     let Field::Value(v) = field else {
-        return Count::Refused(Refusal::ImageShort);
+        return Count::Refused(ImageRefusal::ImageShort);
     };
     if v < lo as u32 {
-        return Count::Refused(Refusal::ImageBad);
+        return Count::Refused(ImageRefusal::HeaderOrCount(g));
     }
     if (hi as u32) < v {
-        return Count::Refused(Refusal::ImageBad);
+        return Count::Refused(ImageRefusal::HeaderOrCount(g));
     }
     Count::Is(v as u8)
 }
@@ -133,7 +134,7 @@ fn read_sources(s: &[u8], at: u64, k: u8) -> [Source; SOURCES]
     list
 }
 
-fn guest_refused(why: Refusal) -> GuestRead
+fn guest_refused(why: ImageRefusal) -> GuestRead
     ensures { λ r. ⌜ r ≡ guestAs (refused why) ⌝ }
 {
     GuestRead {
@@ -165,7 +166,7 @@ fn read_lists(s: &[u8], at: u64, cpus: u8, extents: u8, sources: u8) -> GuestRea
 {
     let end = behind_lists(at, extents, sources);
     if (s.len() as u64) < (end + 7) / 8 {
-        return guest_refused(Refusal::ImageShort);
+        return guest_refused(ImageRefusal::ImageShort);
     }
     let list = read_extents(s, at, extents);
     let source = read_sources(s, at + EXTENT_BITS * (extents as u64), sources);
@@ -187,26 +188,26 @@ fn read_lists(s: &[u8], at: u64, cpus: u8, extents: u8, sources: u8) -> GuestRea
     }
 }
 
-// The guest at bit `at`: cpus 4 bits, extents 3, sources 5; then its lists.
-pub(crate) fn read_guest(s: &[u8], at: u64) -> GuestRead
+// Guest g at bit `at`: cpus 4 bits, extents 3, sources 5; then its lists.
+pub(crate) fn read_guest(s: &[u8], g: u8, at: u64) -> GuestRead
     requires { ⌜ at < 2 ^ 31 ⌝ }
-    ensures { λ r. ⌜ r ≡ guestAs (readGuest (now (s .entry)) at) ⌝ }
+    ensures { λ r. ⌜ r ≡ guestAs (readGuest (now (s .entry)) g at) ⌝ }
 {
-    let a = read_count(s, at, CPUS_WIDTH, 1, CPUS as u8);
+    let a = read_count(s, at, CPUS_WIDTH, 1, CPUS as u8, g);
     let cpus = match a {
         Count::Refused(why) => {
             return guest_refused(why);
         }
         Count::Is(n) => n,
     };
-    let b = read_count(s, at + EXTENTS_AT, EXTENTS_WIDTH, 1, EXTENTS as u8);
+    let b = read_count(s, at + EXTENTS_AT, EXTENTS_WIDTH, 1, EXTENTS as u8, g);
     let extents = match b {
         Count::Refused(why) => {
             return guest_refused(why);
         }
         Count::Is(n) => n,
     };
-    let c = read_count(s, at + SOURCES_AT, SOURCES_WIDTH, 0, SOURCES as u8);
+    let c = read_count(s, at + SOURCES_AT, SOURCES_WIDTH, 0, SOURCES as u8, g);
     let sources = match c {
         Count::Refused(why) => {
             return guest_refused(why);

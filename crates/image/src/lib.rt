@@ -3,16 +3,20 @@ mod fill;
 mod guest;
 
 ghost use mathlib.Core.Path.{_≡_};
-ghost use Rattle.rules.specs.Rulings.{refused, accepts};
-ghost use Rattle.rules.specs.Image.{judged, loadedAs, load};
-ghost use Rattle.image.specs.Answers.{headerOf, fieldsOf, countAs, readAs};
+ghost use Prim.Native.Nat.{_/_, _%_, _<_};
+ghost use Rattle.rules.specs.Rulings.{refused};
+ghost use Rattle.rules.specs.Image.{readHeader, readFields, judged, loadedAs, load};
+ghost use Rattle.image.specs.Answers.{countAs, verdictOf, readAs};
 use guest::Count;
 use guest::Verdict;
 use records::blank;
-use rules::Answer;
+use rules::EXTENTS;
+use rules::Found;
 use rules::GUESTS;
+use rules::ImageRefusal;
 use rules::Loaded;
-use rules::Refusal;
+use rules::Loading;
+use rules::SOURCES;
 use rules::Tables;
 use rules::widths::EDITION_WIDTH;
 use rules::widths::GUESTS_WIDTH;
@@ -28,7 +32,7 @@ struct Read {
     pub tables: Tables,
 }
 
-fn read_refused(why: Refusal) -> Read
+fn read_refused(why: ImageRefusal) -> Read
     ensures { λ r. ⌜ r ≡ readAs (refused why) ⌝ }
 {
     Read {
@@ -38,20 +42,20 @@ fn read_refused(why: Refusal) -> Read
     }
 }
 
-// Edition 1, and the number of guests.
+// Edition 1, and the number of guests. Of the header guest 0 is told.
 fn read_header(s: &[u8]) -> Count
-    ensures { λ r. ⌜ r ≡ countAs (headerOf (now (s .entry))) ⌝ }
+    ensures { λ r. ⌜ r ≡ countAs (readHeader (now (s .entry))) ⌝ }
 {
-    let edition = guest::read_count(s, 0, EDITION_WIDTH, 1, 1);
+    let edition = guest::read_count(s, 0, EDITION_WIDTH, 1, 1, 0);
     match edition {
         Count::Refused(why) => Count::Refused(why),
-        Count::Is(_) => guest::read_count(s, GUESTS_AT, GUESTS_WIDTH, 1, GUESTS as u8),
+        Count::Is(_) => guest::read_count(s, GUESTS_AT, GUESTS_WIDTH, 1, GUESTS as u8, 0),
     }
 }
 
 // Every field, in order, up to the first that is missing or outside its limits.
 fn read_fields(s: &[u8]) -> Read
-    ensures { λ r. ⌜ r ≡ readAs (fieldsOf (now (s .entry))) ⌝ }
+    ensures { λ r. ⌜ r ≡ readAs (readFields (now (s .entry))) ⌝ }
 {
     let header = read_header(s);
     let guests = match header {
@@ -64,7 +68,7 @@ fn read_fields(s: &[u8]) -> Read
     let mut at: u64 = HEADER_BITS;
     let mut i: u8 = 0;
     while i < guests {
-        let next = guest::read_guest(s, at);
+        let next = guest::read_guest(s, i, at);
         let verdict = next.verdict;
         if let Verdict::Refused(why) = verdict {
             return read_refused(why);
@@ -81,30 +85,56 @@ fn read_fields(s: &[u8]) -> Read
     }
 }
 
-// Whether the rules that are tried after the last field accept the tables.
-fn accepted(s: &[u8], end: u64, tables: Tables) -> bool
-    ensures { λ r. ⌜ r ≡ accepts (judged (now (s .entry)) end tables) ⌝ }
+// The guest of place k on the host, where each guest has n places, and the position there.
+fn guest_of(k: usize, n: usize) -> u8
+    requires { ⌜ (k < 256) × (0 < n) ⌝ }
+    ensures { λ r. ⌜ r ≡ k / n ⌝ }
 {
-    if !partition::extents_all_right(tables) {
-        return false;
-    }
-    if !partition::all_ascend(tables) {
-        return false;
-    }
-    if partition::pages_shared(tables) {
-        return false;
-    }
-    if partition::source_twice(tables) {
-        return false;
-    }
-    fill::filled_out(s, end)
+    (k / n) as u8
 }
 
-fn load_refused(why: Refusal) -> Loaded
+fn position_of(k: usize, n: usize) -> u8
+    requires { ⌜ (k < 256) × (0 < n) ⌝ }
+    ensures { λ r. ⌜ r ≡ k % n ⌝ }
+{
+    (k % n) as u8
+}
+
+// The rules that are tried after the last field, one after another, each over all guests.
+fn judge(s: &[u8], end: u64, tables: Tables) -> Verdict
+    ensures { λ r. ⌜ r ≡ verdictOf (judged (now (s .entry)) end tables) ⌝ }
+{
+    let wrong = partition::wrong_numbers(tables);
+    if let Found::At(k) = wrong {
+        let g = guest_of(k, EXTENTS);
+        return Verdict::Refused(ImageRefusal::ExtentNumbers(g, position_of(k, EXTENTS)));
+    }
+    let low = partition::out_of_order(tables);
+    if let Found::At(k) = low {
+        let g = guest_of(k, EXTENTS);
+        return Verdict::Refused(ImageRefusal::ExtentOrder(g, position_of(k, EXTENTS)));
+    }
+    let shared = partition::shares_before(tables);
+    if let Found::At(k) = shared {
+        let g = guest_of(k, EXTENTS);
+        return Verdict::Refused(ImageRefusal::PagesShared(g, position_of(k, EXTENTS)));
+    }
+    let twice = partition::named_before(tables);
+    if let Found::At(k) = twice {
+        let g = guest_of(k, SOURCES);
+        return Verdict::Refused(ImageRefusal::SourceTwice(g, position_of(k, SOURCES)));
+    }
+    if !fill::filled_out(s, end) {
+        return Verdict::Refused(ImageRefusal::FillOrBehind(tables.guests));
+    }
+    Verdict::Granted
+}
+
+fn load_refused(why: ImageRefusal) -> Loaded
     ensures { λ r. ⌜ r ≡ loadedAs (refused why) ⌝ }
 {
     Loaded {
-        answer: Answer::Refused(why),
+        answer: Loading::Refused(why),
         tables: blank::no_guests(),
     }
 }
@@ -119,11 +149,12 @@ pub fn load(s: &[u8]) -> Loaded
         return load_refused(why);
     }
     let tables = read.tables;
-    if !accepted(s, read.end, tables) {
-        return load_refused(Refusal::ImageBad);
+    let judged = judge(s, read.end, tables);
+    if let Verdict::Refused(why) = judged {
+        return load_refused(why);
     }
     Loaded {
-        answer: Answer::Done,
+        answer: Loading::Accepted,
         tables,
     }
 }

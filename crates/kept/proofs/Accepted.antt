@@ -1,63 +1,68 @@
 -- Promise: an accepted image gives tables that keep the rules.
-use mathlib.Core.Path.{_≡_, refl, sym, ap, subst, _∙_}
-use mathlib.Core.Bool.{Bool, true, false, _&&_, not}
+use mathlib.Core.Path.{_≡_, refl, ap, _∙_}
+use mathlib.Core.Bool.{Bool, true, false, _&&_}
 use mathlib.Core.List.{List}
-use Prim.Native.Nat.{ℕ, zero, suc, _+_, _*_, _≤_, _<_}
+use Prim.Native.Nat.{ℕ, zero, suc, _+_, _*_, _/_, _%_, _≤_, _<_}
 use native.Mathlib.Omega.{arith}
 use lib.Dec.{leb, ltb, eqb}
 use lib.ListN.{length, getD, set, replicate, take, getD-replicate, length-replicate, length-set}
 use lib.Seq.{getD-set-same, getD-set-other}
-use borrow.Author.Tests.{le-leb, leb-true, lt-ltb, ltb-true, ltb-false, eqb-true, eqb-false}
+use borrow.Author.Tests.{le-leb, leb-true, lt-ltb, ltb-true, ltb-false, eqb-true, eqb-false, not-false}
 use Rattle.rules.specs.declared.Cpu.{Cpu}
+use Rattle.rules.specs.declared.Extents.{Extents}
+use Rattle.rules.specs.declared.Found.{Found}
 use Rattle.rules.specs.declared.Guest.{Guest}
+use Rattle.rules.specs.declared.ImageRefusal.{ImageRefusal}
+use Rattle.rules.specs.declared.ImageRefusal.the-variants.{ImageShort, HeaderOrCount, ExtentNumbers, ExtentOrder, PagesShared, SourceTwice, FillOrBehind}
 use Rattle.rules.specs.declared.Plant.{Plant}
-use Rattle.rules.specs.declared.Refusal.{Refusal}
-use Rattle.rules.specs.declared.Refusal.the-variants.{ImageShort, ImageBad}
 use Rattle.rules.specs.declared.Tables.{Tables}
 use Rattle.rules.specs.Limits.{guestLimit, cpuLimit, extentLimit, sourceLimit, devhandles, devinos}
-use Rattle.rules.specs.Scan.{allBelow}
 use Rattle.rules.specs.Kept.{blankExtent, blankCpu, blankSource, blankGuest, hollowCpu, hollowGuest, noVersions, noGuests, guestAt, extentAt, cpuAt, sourceAt}
 use Rattle.rules.specs.Bits.{fieldAt, reaches}
 use Rattle.rules.specs.Real.{valid}
-use Rattle.rules.specs.Rulings.{Ruling, refused, granted, _or-refuse_then_, if_then_else_}
+use Rattle.rules.specs.Rulings.{RulingBy, refused, granted, _or-refuse_then_, _refuses_then_, if_then_else_}
 use Rattle.rules.specs.Widths.{editionWidth, guestsWidth, headerBits, cpusWidth, extentsWidth, sourcesWidth, countsBits, extentBits, devhandleWidth, devinoWidth, sourceBits}
-use Rattle.rules.specs.Image.{_bits-at_of_from_to_, filled, readExtent, readSource, readLists, readGuest, Partition, readGuests, behind, extentsRight, extentRight, ascend, pagesShared, sourceTwice, filledOut, judged, readImage, loadedAs, load}
+use Rattle.rules.specs.Image.{Reading, _bits-at_of_from_to_else_, filled, readExtent, readSource, readLists, readGuest, Partition, readGuests, behind, readHeader, Fields, readFields, extentRight, rightAt, follows, ascend, at-extent, at-source, breaks, firstBreaking, sharesBefore, namedBefore, filledOut, judged, readImage, loadedAs, load}
 use Rattle.rules.specs.Tables.{listRight, cpuBlank, cpuRight, sourceBlank, sourceRight, cookieRight, enabledRight, versionsRight, extentBlank, extentsKeep, plantKeeps, guestKeeps, guestBlank, keepRules}
 use Rattle.rules.proofs.Computing.{computing}
-use Rattle.rules.proofs.Scan.{all-at, all-of}
+use Rattle.rules.proofs.Scan.{all-of, nothing-at}
 use Rattle.rules.proofs.Tests.{and-left, and-right}
 use Rattle.bits.proofs.FieldLaws.{field-lt}
 use Rattle.partition.proofs.Filled.{fill-at}
 use Rattle.image.proofs.GuestLaws.{cpusRead, extentsRead, sourcesRead, grants-tells}
-use Rattle.image.proofs.FieldsLaws.{editionRead, guestsRead}
+use Rattle.image.proofs.FieldsLaws.{editionRead}
 
 -- What a ruling that grants tells.
 
-pub then-tells : {A : Type 0} (t : Bool) (r : Refusal) (x : Ruling A) (a : A) → (t or-refuse r then x) ≡ granted a → t ≡ true
+pub then-tells : {R A : Type 0} (t : Bool) (r : R) (x : RulingBy R A) (a : A) → (t or-refuse r then x) ≡ granted a → t ≡ true
 then-tells true r x a e = refl
 then-tells false r x a e = let z : _≡_ {A = ℕ} 0 1 = cc in absurd (omega arith)
 
-pub then-rest : {A : Type 0} (t : Bool) (r : Refusal) (x : Ruling A) (a : A) → (t or-refuse r then x) ≡ granted a → x ≡ granted a
+pub then-rest : {R A : Type 0} (t : Bool) (r : R) (x : RulingBy R A) (a : A) → (t or-refuse r then x) ≡ granted a → x ≡ granted a
 then-rest true r x a e = e
 then-rest false r x a e = let z : _≡_ {A = ℕ} 0 1 = cc in absurd (omega arith)
 
-pub granted-same : {A : Type 0} (a b : A) → granted a ≡ granted b → a ≡ b
+pub scan-tells : {R A : Type 0} (found : Found) (r : ℕ → R) (x : RulingBy R A) (a : A) → (found refuses r then x) ≡ granted a → (found ≡ Found.Nothing) × (x ≡ granted a)
+scan-tells Found.Nothing r x a e = (refl, e)
+scan-tells (Found.At k) r x a e = let z : _≡_ {A = ℕ} 0 1 = cc in absurd (omega arith)
+
+pub granted-same : {R A : Type 0} (a b : A) → _≡_ {A = RulingBy R A} (granted a) (granted b) → a ≡ b
 granted-same a b e = cc
 
 -- a count lies within its limits
-module _ (bytes : List ℕ) (at n lo hi v : ℕ) (e : (n bits-at at of bytes from lo to hi) ≡ granted v) where
+module _ (bytes : List ℕ) (at n lo hi : ℕ) (why : ImageRefusal) (v : ℕ) (e : (n bits-at at of bytes from lo to hi else why) ≡ granted v) where
   abbrev limits : Bool
   limits = leb lo (fieldAt bytes at n) && leb (fieldAt bytes at n) hi
 
-  counted : (limits or-refuse ImageBad then granted (fieldAt bytes at n)) ≡ granted v
-  unfolding _bits-at_of_from_to_
-  counted = then-rest (reaches bytes (at + n)) ImageShort (limits or-refuse ImageBad then granted (fieldAt bytes at n)) v e
+  counted : (limits or-refuse why then granted (fieldAt bytes at n)) ≡ granted v
+  unfolding _bits-at_of_from_to_else_
+  counted = then-rest (reaches bytes (at + n)) ImageShort (limits or-refuse why then granted (fieldAt bytes at n)) v e
 
   count-limits : limits ≡ true
-  count-limits = then-tells limits ImageBad (granted (fieldAt bytes at n)) v counted
+  count-limits = then-tells limits why (granted (fieldAt bytes at n)) v counted
 
   count-is : fieldAt bytes at n ≡ v
-  count-is = granted-same (fieldAt bytes at n) v (then-rest limits ImageBad (granted (fieldAt bytes at n)) v counted)
+  count-is = granted-same (fieldAt bytes at n) v (then-rest limits why (granted (fieldAt bytes at n)) v counted)
 
   count-least : lo ≤ v
   count-least = rw count-is at (leb-true lo (fieldAt bytes at n) (and-left _ _ count-limits))
@@ -131,16 +136,16 @@ module _ (bytes : List ℕ) (at cpus extents sources : ℕ) (c0 : 1 ≤ cpus) (c
   read-lists-fresh g e =
       rw (← granted-same lists g (then-rest (reaches bytes (at + extentBits * extents + sourceBits * sources)) ImageShort (granted lists) g e)) lists-fresh
 
-read-guest-fresh : (bytes : List ℕ) (at : ℕ) (g : Guest) → readGuest bytes at ≡ granted g → Fresh g
+read-guest-fresh : (bytes : List ℕ) (n at : ℕ) (g : Guest) → readGuest bytes n at ≡ granted g → Fresh g
 unfolding readGuest
-read-guest-fresh bytes at g e =
-    let a = grants-tells (cpusRead bytes at) _ g e in
-    let b = grants-tells (extentsRead bytes at) _ g (a .1 .1) in
-    let c = grants-tells (sourcesRead bytes at) _ g (b .1 .1) in
+read-guest-fresh bytes n at g e =
+    let a = grants-tells (cpusRead bytes n at) _ g e in
+    let b = grants-tells (extentsRead bytes n at) _ g (a .1 .1) in
+    let c = grants-tells (sourcesRead bytes n at) _ g (b .1 .1) in
     read-lists-fresh bytes (at + countsBits) (a .0) (b .0) (c .0)
-    (count-least bytes at cpusWidth 1 cpuLimit (a .0) (a .1 .0)) (count-most bytes at cpusWidth 1 cpuLimit (a .0) (a .1 .0))
-    (count-least bytes (at + cpusWidth) extentsWidth 1 extentLimit (b .0) (b .1 .0)) (count-most bytes (at + cpusWidth) extentsWidth 1 extentLimit (b .0) (b .1 .0))
-    (count-most bytes (at + (cpusWidth + extentsWidth)) sourcesWidth 0 sourceLimit (c .0) (c .1 .0)) g (c .1 .1)
+    (count-least bytes at cpusWidth 1 cpuLimit (HeaderOrCount n) (a .0) (a .1 .0)) (count-most bytes at cpusWidth 1 cpuLimit (HeaderOrCount n) (a .0) (a .1 .0))
+    (count-least bytes (at + cpusWidth) extentsWidth 1 extentLimit (HeaderOrCount n) (b .0) (b .1 .0)) (count-most bytes (at + cpusWidth) extentsWidth 1 extentLimit (HeaderOrCount n) (b .0) (b .1 .0))
+    (count-most bytes (at + (cpusWidth + extentsWidth)) sourcesWidth 0 sourceLimit (HeaderOrCount n) (c .0) (c .1 .0)) g (c .1 .1)
 
 -- Such a guest keeps the rules.
 
@@ -201,18 +206,22 @@ module _ (v : ℕ → ℕ → Bool) (g : Guest) (f : Fresh g) where
   unfolding plantKeeps
   fresh-plant = rw (le-leb 1 (p .cpus) (f .cpus-least), versions-right, cpus-right, sources-right)
 
-fresh-extents : (g : Guest) → Fresh g → extentsRight (g .extents) ≡ true → ascend (g .extents) ≡ true → extentsKeep (g .extents) ≡ true
-unfolding extentsKeep extentsRight
+-- the rule holds of every extent that is there
+abbrev Throughout : (Extents → ℕ → Bool) → Extents → Type 0
+Throughout rule e = (i : ℕ) → i < e .extents → rule e i ≡ true
+
+fresh-extents : (g : Guest) → Fresh g → Throughout rightAt (g .extents) → Throughout follows (g .extents) → extentsKeep (g .extents) ≡ true
+unfolding extentsKeep ascend
 fresh-extents g f r a =
-    rw (le-leb 1 (g .extents .extents) (f .extents-least), a, places)
+    rw (le-leb 1 (g .extents .extents) (f .extents-least), all-of (follows (g .extents)) (g .extents .extents) a, places)
   where
     places : listRight extentLimit (g .extents .extents) (λ i. extentRight (extentAt (g .extents) i)) (λ i. extentBlank (extentAt (g .extents) i)) ≡ true
     places =
         list-right extentLimit (g .extents .extents) (λ i. extentRight (extentAt (g .extents) i)) (λ i. extentBlank (extentAt (g .extents) i)) (f .extents-most)
-        (λ i h. all-at (λ i. extentRight (extentAt (g .extents) i)) (g .extents .extents) i r h)
+        r
         (λ i h l. ap extentBlank (f .extent-past i h) ∙ extent-blank)
 
-fresh-keeps : (g : Guest) → Fresh g → extentsRight (g .extents) ≡ true → ascend (g .extents) ≡ true → guestKeeps g ≡ true
+fresh-keeps : (g : Guest) → Fresh g → Throughout rightAt (g .extents) → Throughout follows (g .extents) → guestKeeps g ≡ true
 unfolding guestKeeps
 fresh-keeps g f r a = rw (fresh-extents g f r a) (fresh-plant (valid (take (g .extents .extents) (g .extents .extent))) g f)
 
@@ -233,9 +242,9 @@ read-around bytes zero at i guest r l e =
       behind-them = λ j h. rw q refl;
     }
 read-around bytes (suc k) at i guest r l e =
-    let t = grants-tells (readGuest bytes at) (λ next. readGuests bytes k (behind at next) (i + 1) (set guest i next)) r e in
+    let t = grants-tells (readGuest bytes i at) (λ next. readGuests bytes k (behind at next) (i + 1) (set guest i next)) r e in
     let more : i + 1 + k ≤ length (set guest i (t .0)) = simp length-set (omega arith) in
-    go (t .0) (read-guest-fresh bytes at (t .0) (t .1 .0)) (read-around bytes k (behind at (t .0)) (i + 1) (set guest i (t .0)) r more (t .1 .1))
+    go (t .0) (read-guest-fresh bytes i at (t .0) (t .1 .0)) (read-around bytes k (behind at (t .0)) (i + 1) (set guest i (t .0)) r more (t .1 .1))
   where
     go : (next : Guest) → Fresh next → Around (set guest i next) (r .guest) (i + 1) k → Around guest (r .guest) i (suc k)
     go next f a = record {
@@ -250,86 +259,103 @@ read-around bytes (suc k) at i guest r l e =
             rw (a .below j (omega arith), q, getD-set-same guest i next hollowGuest (omega arith)) f
         at-or-behind j h m false e = a .among j (omega (arith, eqb-false j i e)) (omega arith)
 
+-- tables as the fields give them
+pub record AsRead (tables : Tables) : Type 0 where
+  pub guests-most : tables .guests ≤ guestLimit
+  pub there : (g : ℕ) → g < tables .guests → Fresh (guestAt tables g)
+  pub absent : (g : ℕ) → tables .guests ≤ g → g < guestLimit → guestAt tables g ≡ blankGuest
+
+header-most : (bytes : List ℕ) (guests : ℕ) → readHeader bytes ≡ granted guests → guests ≤ guestLimit
+unfolding readHeader
+header-most bytes guests e = count-most bytes editionWidth guestsWidth 1 guestLimit (HeaderOrCount 0) guests (grants-tells (editionRead bytes) _ guests e .1 .1)
+
+pub fields-as-read : (bytes : List ℕ) (fields : Fields) → readFields bytes ≡ granted fields → AsRead (fields .tables)
+unfolding readFields
+fields-as-read bytes fields e =
+    let a = grants-tells (readHeader bytes) _ fields e in
+    let b = grants-tells (readGuests bytes (a .0) headerBits 0 (replicate guestLimit blankGuest)) _ fields (a .1 .1) in
+    let most : a .0 ≤ guestLimit = header-most bytes (a .0) (a .1 .0) in
+    let room : 0 + a .0 ≤ length (replicate guestLimit blankGuest) = simp length-replicate (omega arith) in
+    let around = read-around bytes (a .0) headerBits 0 (replicate guestLimit blankGuest) (b .0) room (b .1 .0) in
+    let t : Tables = record { guests = a .0; guest = b .0 .guest } in
+    let q : t ≡ fields .tables = ap (λ (f : Fields). f .tables) (granted-same (record { tables = t; end = b .0 .end }) fields (b .1 .1)) in
+    rw (← q)
+    (record {
+      guests-most = most;
+      there = λ g h. around .among g (omega arith) (omega arith);
+      absent = λ g h l. around .behind-them g (omega arith) ∙ getD-replicate guestLimit g blankGuest hollowGuest l;
+    })
+
+-- tables in which no fault was found
+pub record NoFault (tables : Tables) : Type 0 where
+  pub numbers : firstBreaking rightAt tables ≡ Found.Nothing
+  pub order : firstBreaking follows tables ≡ Found.Nothing
+  pub pages : sharesBefore tables ≡ Found.Nothing
+  pub names : namedBefore tables ≡ Found.Nothing
+
 -- What the later rules tell.
 module _ (bytes : List ℕ) (end : ℕ) (t r : Tables) (e : judged bytes end t ≡ granted r) where
-  abbrev all-right : Bool
-  all-right = allBelow (t .guests) (λ g. extentsRight (guestAt t g .extents))
+  abbrev filled-last : Reading Tables
+  filled-last = filledOut bytes end or-refuse FillOrBehind (t .guests) then granted t
 
-  abbrev all-ascend : Bool
-  all-ascend = allBelow (t .guests) (λ g. ascend (guestAt t g .extents))
+  abbrev names-last : Reading Tables
+  names-last = namedBefore t refuses at-source SourceTwice then filled-last
 
-  abbrev filled-last : Ruling Tables
-  filled-last = filledOut bytes end or-refuse ImageBad then granted t
+  abbrev pages-last : Reading Tables
+  pages-last = sharesBefore t refuses at-extent PagesShared then names-last
 
-  abbrev sources-last : Ruling Tables
-  sources-last = not (sourceTwice t) or-refuse ImageBad then filled-last
+  abbrev order-last : Reading Tables
+  order-last = firstBreaking follows t refuses at-extent ExtentOrder then pages-last
 
-  abbrev pages-last : Ruling Tables
-  pages-last = not (pagesShared t) or-refuse ImageBad then sources-last
-
-  abbrev ascend-last : Ruling Tables
-  ascend-last = all-ascend or-refuse ImageBad then pages-last
-
-  right-told : all-right ≡ true
+  judged-tells : NoFault t × (t ≡ r)
   unfolding judged
-  right-told = then-tells all-right ImageBad ascend-last r e
+  judged-tells =
+      let a = scan-tells (firstBreaking rightAt t) (at-extent ExtentNumbers) order-last r e in
+      let b = scan-tells (firstBreaking follows t) (at-extent ExtentOrder) pages-last r (a .1) in
+      let c = scan-tells (sharesBefore t) (at-extent PagesShared) names-last r (b .1) in
+      let d = scan-tells (namedBefore t) (at-source SourceTwice) filled-last r (c .1) in
+      (record { numbers = a .0; order = b .0; pages = c .0; names = d .0 }, granted-same t r (then-rest (filledOut bytes end) (FillOrBehind (t .guests)) (granted t) r (d .1)))
 
-  ascend-granted : ascend-last ≡ granted r
-  unfolding judged
-  ascend-granted = then-rest all-right ImageBad ascend-last r e
+-- a rule that no extent was found to break holds of those that are there
+none-breaks : (rule : Extents → ℕ → Bool) (t : Tables) → firstBreaking rule t ≡ Found.Nothing → (g : ℕ) → g < guestLimit → guestAt t g .extents .extents ≤ extentLimit → Throughout rule (guestAt t g .extents)
+unfolding firstBreaking breaks
+none-breaks rule t n g l few i h =
+    let q : (extentLimit * g + i) / extentLimit ≡ g = omega arith in
+    let m : (extentLimit * g + i) % extentLimit ≡ i = omega arith in
+    not-false _ (rw (q, m, lt-ltb i (guestAt t g .extents .extents) h) at (nothing-at (λ k. breaks rule (guestAt t (k / extentLimit) .extents) (k % extentLimit)) (guestLimit * extentLimit) (extentLimit * g + i) n (omega arith)))
 
-  ascend-told : all-ascend ≡ true
-  ascend-told = then-tells all-ascend ImageBad pages-last r ascend-granted
+as-read-keeps : (t : Tables) → AsRead t → NoFault t → keepRules t ≡ true
+unfolding keepRules
+as-read-keeps t a n = rw (places, n .pages, n .names)
+  where
+    fresh : (g : ℕ) → g < t .guests → guestKeeps (guestAt t g) ≡ true
+    fresh g h =
+        let most : t .guests ≤ guestLimit = a .guests-most in
+        let few : guestAt t g .extents .extents ≤ extentLimit = a .there g h .extents-most in
+        fresh-keeps (guestAt t g) (a .there g h) (none-breaks rightAt t (n .numbers) g (omega arith) few) (none-breaks follows t (n .order) g (omega arith) few)
 
-  pages-granted : pages-last ≡ granted r
-  pages-granted = then-rest all-ascend ImageBad pages-last r ascend-granted
-
-  pages-told : not (pagesShared t) ≡ true
-  pages-told = then-tells (not (pagesShared t)) ImageBad sources-last r pages-granted
-
-  sources-granted : sources-last ≡ granted r
-  sources-granted = then-rest (not (pagesShared t)) ImageBad sources-last r pages-granted
-
-  sources-told : not (sourceTwice t) ≡ true
-  sources-told = then-tells (not (sourceTwice t)) ImageBad filled-last r sources-granted
-
-  judged-same : t ≡ r
-  judged-same = granted-same t r (then-rest (filledOut bytes end) ImageBad (granted t) r (then-rest (not (sourceTwice t)) ImageBad filled-last r sources-granted))
-
-  judged-keeps : t .guests ≤ guestLimit → Around (replicate guestLimit blankGuest) (t .guest) 0 (t .guests) → keepRules t ≡ true
-  unfolding keepRules
-  judged-keeps most a = rw (places, pages-told, sources-told)
-    where
-      places : listRight guestLimit (t .guests) (λ g. guestKeeps (guestAt t g)) (λ g. guestBlank (guestAt t g)) ≡ true
-      places =
-          list-right guestLimit (t .guests) (λ g. guestKeeps (guestAt t g)) (λ g. guestBlank (guestAt t g)) most
-          (λ g h. fresh-keeps (guestAt t g) (a .among g (omega arith) (omega arith)) (all-at (λ g. extentsRight (guestAt t g .extents)) (t .guests) g right-told h) (all-at (λ g. ascend (guestAt t g .extents)) (t .guests) g ascend-told h))
-          (λ g h l. ap guestBlank (a .behind-them g (omega arith) ∙ getD-replicate guestLimit g blankGuest hollowGuest l) ∙ guest-blank)
+    places : listRight guestLimit (t .guests) (λ g. guestKeeps (guestAt t g)) (λ g. guestBlank (guestAt t g)) ≡ true
+    places =
+        list-right guestLimit (t .guests) (λ g. guestKeeps (guestAt t g)) (λ g. guestBlank (guestAt t g)) (a .guests-most) fresh
+        (λ g h l. ap guestBlank (a .absent g h l) ∙ guest-blank)
 
 -- what an accepted image tells
-accepted-read : (bytes : List ℕ) (tables : Tables) → readImage bytes ≡ granted tables
-    → (end : ℕ) × (judged bytes end tables ≡ granted tables) × (tables .guests ≤ guestLimit) × Around (replicate guestLimit blankGuest) (tables .guest) 0 (tables .guests)
+pub accepted-read : (bytes : List ℕ) (tables : Tables) → readImage bytes ≡ granted tables → AsRead tables × NoFault tables
 unfolding readImage
 accepted-read bytes tables e =
-    let a = grants-tells (editionRead bytes) _ tables e in
-    let b = grants-tells (guestsRead bytes) _ tables (a .1 .1) in
-    let c = grants-tells (readGuests bytes (b .0) headerBits 0 (replicate guestLimit blankGuest)) _ tables (b .1 .1) in
-    let most : b .0 ≤ guestLimit = count-most bytes editionWidth guestsWidth 1 guestLimit (b .0) (b .1 .0) in
-    let room : 0 + b .0 ≤ length (replicate guestLimit blankGuest) = simp length-replicate (omega arith) in
-    let t : Tables = record { guests = b .0; guest = c .0 .guest } in
-    let same : t ≡ tables = judged-same bytes (c .0 .end) t tables (c .1 .1) in
-    subst (λ (r : Tables). (end : ℕ) × (judged bytes end r ≡ granted r) × (r .guests ≤ guestLimit) × Around (replicate guestLimit blankGuest) (r .guest) 0 (r .guests)) same
-    (c .0 .end, c .1 .1 ∙ ap granted (sym same), most, read-around bytes (b .0) headerBits 0 (replicate guestLimit blankGuest) (c .0) room (c .1 .0))
+    let a = grants-tells (readFields bytes) _ tables e in
+    let j = judged-tells bytes (a .0 .end) (a .0 .tables) tables (a .1 .1) in
+    rw (← j .1) (fields-as-read bytes (a .0) (a .1 .0), j .0)
 
 -- its guests are as they were read
 pub accepted-fresh : (bytes : List ℕ) (tables : Tables) → readImage bytes ≡ granted tables → (g : ℕ) → g < tables .guests → Fresh (guestAt tables g)
-accepted-fresh bytes tables e g h = accepted-read bytes tables e .3 .among g (omega arith) (omega arith)
+accepted-fresh bytes tables e g h = accepted-read bytes tables e .0 .there g h
 
 -- An accepted image gives tables that keep the rules.
 pub accepted-keeps : (bytes : List ℕ) (tables : Tables) → readImage bytes ≡ granted tables → keepRules tables ≡ true
 accepted-keeps bytes tables e =
     let r = accepted-read bytes tables e in
-    judged-keeps bytes (r .0) tables tables (r .1) (r .2) (r .3)
+    as-read-keeps tables (r .0) (r .1)
 
 -- Whatever is loaded keeps the rules: an image that is refused gives the tables with no guest.
 no-guests-keep : keepRules noGuests ≡ true
@@ -340,6 +366,6 @@ pub load-keeps : (bytes : List ℕ) → keepRules (load bytes .tables) ≡ true
 unfolding load
 load-keeps bytes = go (readImage bytes) refl
   where
-    go : (x : Ruling Tables) → readImage bytes ≡ x → keepRules (loadedAs x .tables) ≡ true
+    go : (x : Reading Tables) → readImage bytes ≡ x → keepRules (loadedAs x .tables) ≡ true
     go (refused r) e = no-guests-keep
     go (granted tables) e = accepted-keeps bytes tables e

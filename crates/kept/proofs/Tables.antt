@@ -19,10 +19,11 @@ use Rattle.rules.specs.Limits.{guestLimit, extentLimit, sourceLimit}
 use Rattle.rules.specs.Kept.{guestAt, plantAt, extentAt, sourceAt, extentsOf, hollowGuest, withPlant}
 use Rattle.rules.specs.Real.{valid, sightOf}
 use Rattle.rules.specs.Rulings.{Ruling, outcomeOf, _or-refuse_then_}
-use Rattle.rules.specs.Image.{runAt, pagesShared, twins, sourceTwice}
+use Rattle.rules.specs.Image.{runAt, sharesBefore, pagesShared, twins, namedBefore, sourceTwice}
 use Rattle.rules.specs.Tables.{listRight, guestBlank, guestKeeps, keepRules}
 use Rattle.rules.specs.Host.{HostOutcome, plantRule, ownerOf, longEnough, answeredBy, hostRule, hostOutcomeOf, hostEvent}
-use Rattle.rules.proofs.Scan.{some-same}
+use Rattle.rules.specs.Scan.{isFound}
+use Rattle.rules.proofs.Scan.{some-same, first-same}
 use Rattle.rules.proofs.Tests.{and-left, and-right}
 use Rattle.tables.proofs.SoundTables.{extents-keep, plant-keeps}
 use Rattle.kept.proofs.Lists.{set-either, list-replaced}
@@ -64,8 +65,8 @@ module _ (tables : Tables) (keep : keepRules tables ≡ true) (g : ℕ) (there :
   run-same n = ap (λ (e : Extents). extentAt e (n % extentLimit)) (extents-same (n / extentLimit))
 
   pages-same : pagesShared next ≡ pagesShared tables
-  unfolding pagesShared
-  pages-same = some-same _ _ (guestLimit * extentLimit) (λ j _. some-same _ _ j (λ i _. rw (run-same i, run-same j)))
+  unfolding sharesBefore
+  pages-same = ap isFound (first-same _ _ (guestLimit * extentLimit) (λ j _. some-same _ _ j (λ i _. rw (run-same i, run-same j))))
 
   twins-same : (i j : ℕ) → twins next i j ≡ twins tables i j
   unfolding twins
@@ -79,8 +80,8 @@ module _ (tables : Tables) (keep : keepRules tables ≡ true) (g : ℕ) (there :
       )
 
   twice-same : sourceTwice next ≡ sourceTwice tables
-  unfolding sourceTwice
-  twice-same = some-same _ _ (guestLimit * sourceLimit) (λ j _. rw (sources-same (j / sourceLimit), some-same _ (λ i. twins tables i j) j (λ i _. twins-same i j)))
+  unfolding namedBefore
+  twice-same = ap isFound (first-same _ _ (guestLimit * sourceLimit) (λ j _. rw (sources-same (j / sourceLimit), some-same _ (λ i. twins tables i j) j (λ i _. twins-same i j))))
 
   put-keeps : guestKeeps put ≡ true
   unfolding guestKeeps

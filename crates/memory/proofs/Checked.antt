@@ -15,9 +15,9 @@ use Rattle.rules.specs.declared.Tables.{Tables}
 use Rattle.rules.specs.Limits.{pageSize, guestLimit, extentLimit}
 use Rattle.rules.specs.Kept.{blankExtent, guestAt, extentAt, extentsOf}
 use Rattle.rules.specs.Real.{low, high}
-use Rattle.rules.specs.Image.{ascend, share, runAt, pagesShared}
+use Rattle.rules.specs.Image.{follows, ascend, share, runAt, sharesBefore, pagesShared}
 use Rattle.rules.specs.Host.{longEnough}
-use Rattle.rules.proofs.Scan.{all-at, none-at}
+use Rattle.rules.proofs.Scan.{all-at, none-at, unfound-at}
 use Rattle.memory.specs.Ready.{present, After, Apart, Long, Ready}
 use Rattle.memory.proofs.Isolation.{Unshared, Cross, Distinct, Strangers, strangers}
 
@@ -66,7 +66,7 @@ module _ (e : Extents) (i : ℕ) (h : i < length (present e)) where
   at-there = getD-take (e .extents) (e .extent) i blankExtent there
 
 ascend-at : (e : Extents) (i : ℕ) → ascend e ≡ true → suc i < e .extents → extentAt e i .real + extentAt e i .count ≤ extentAt e (suc i) .real
-unfolding ascend
+unfolding follows ascend
 ascend-at e i p h =
     let q : (eqb (suc i) 0 || leb (extentAt e (suc i - 1) .real + extentAt e (suc i - 1) .count) (extentAt e (suc i) .real)) ≡ true = all-at _ (e .extents) (suc i) p h in
     let s : suc i - 1 ≡ i = omega arith in
@@ -96,9 +96,9 @@ module _ (tables : Tables) where
 
   -- two runs, the first before the second, share no page
   apart-at : (g i f j : ℕ) → pagesShared tables ≡ false → f < guestLimit → i < extentLimit → j < extentLimit → extentLimit * g + i < extentLimit * f + j → share (held g i) (held f j) ≡ false
-  unfolding pagesShared
+  unfolding sharesBefore
   apart-at g i f j p hf hi hj l =
-      rw (← run-at g i hi, ← run-at f j hj) (none-at _ (extentLimit * f + j) (extentLimit * g + i) (none-at _ (guestLimit * extentLimit) (extentLimit * f + j) p (omega arith)) l)
+      rw (← run-at g i hi, ← run-at f j hj) (none-at _ (extentLimit * f + j) (extentLimit * g + i) (unfound-at _ (guestLimit * extentLimit) (extentLimit * f + j) p (omega arith)) l)
 
   share-swap : (x y : Extent) → share x y ≡ share y x
   unfolding share

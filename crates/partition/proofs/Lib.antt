@@ -1,4 +1,4 @@
-pub mod Counts
+pub mod Breaking
 pub mod NameLaws
 pub mod Ordered
 pub mod Filled

@@ -17,10 +17,10 @@ module _ (rule : Rule) (list : List Extent) (i : ℕ) where
   unfolding holdsAt
   right-itself x t r a b = rw (b, r, a)
 
-  pub ascends-first : rule ≡ Rule.Ascend → i ≡ 0 → true ≡ holdsAt rule list i
+  pub ascends-first : rule ≡ Rule.Follows → i ≡ 0 → true ≡ holdsAt rule list i
   unfolding holdsAt
   ascends-first r e = rw (r, eq-eqb i 0 e)
 
-  pub ascends-later : (x before : Extent) → rule ≡ Rule.Ascend → (i ≡ 0 → ⊥) → x ≡ getD list i blankExtent → before ≡ getD list (i - 1) blankExtent → leb (before .real + before .count) (x .real) ≡ holdsAt rule list i
+  pub ascends-later : (x before : Extent) → rule ≡ Rule.Follows → (i ≡ 0 → ⊥) → x ≡ getD list i blankExtent → before ≡ getD list (i - 1) blankExtent → leb (before .real + before .count) (x .real) ≡ holdsAt rule list i
   unfolding holdsAt
   ascends-later x before r e a b = rw (r, ne-eqb i 0 e, a, b)

@@ -1,19 +1,21 @@
-// The image's rules that are tried after the last field, over tables. Each is a test with no condition on what it is given.
+// The image's rules that are tried after the last field, over tables. Each answers the place of the first fault, with no condition
+// on what it is given: extent k of the host is extent k % 7 of guest k / 7, and source k is source k % 16 of guest k / 16.
 ghost use mathlib.Core.Path.{_≡_};
 ghost use lib.ListN.{getD};
-ghost use Rattle.rules.specs.Scan.{allBelow};
-ghost use Rattle.rules.specs.Kept.{blankExtent, guestAt};
-ghost use Rattle.rules.specs.Image.{extentRight, extentsRight, ascend, share, pagesShared, sourceTwice};
+ghost use Rattle.rules.specs.Limits.{extentLimit};
+ghost use Rattle.rules.specs.Scan.{firstBelow, isFound};
+ghost use Rattle.rules.specs.Kept.{blankExtent};
+ghost use Rattle.rules.specs.Image.{extentRight, rightAt, follows, ascend, breaks, firstBreaking, share, sharesBefore, pagesShared, namedBefore, sourceTwice};
 ghost use Rattle.partition.specs.Collected.{runsOf, namesOf, alike};
-ghost use Rattle.partition.specs.Rules.{holdsAt, holds, allHold};
+ghost use Rattle.partition.specs.Rules.{holdsAt, ruleOf};
 use memory::greatest;
 use memory::least;
 use records::blank;
 use rules::EXTENTS;
 use rules::Extent;
 use rules::Extents;
+use rules::Found;
 use rules::GUESTS;
-use rules::Guest;
 use rules::SOURCES;
 use rules::Tables;
 
@@ -30,7 +32,7 @@ const NAMES: usize = GUESTS * SOURCES;
 // The two rules on a guest's extents: of each by itself, and of each and the one before it.
 enum Rule {
     Right,
-    Ascend,
+    Follows,
 }
 
 // What a place for a source names, where the guest has a source there.
@@ -63,7 +65,7 @@ fn holds_at(rule: Rule, list: [Extent; EXTENTS], i: usize) -> bool
     let x = extent_at(list, i);
     match rule {
         Rule::Right => extent_right(x),
-        Rule::Ascend => {
+        Rule::Follows => {
             if i == 0 {
                 return true;
             }
@@ -73,14 +75,14 @@ fn holds_at(rule: Rule, list: [Extent; EXTENTS], i: usize) -> bool
     }
 }
 
-fn holds(rule: Rule, e: Extents) -> bool
-    ensures { λ r. ⌜ r ≡ holds rule e ⌝ }
+pub fn ascend(e: Extents) -> bool
+    ensures { λ r. ⌜ r ≡ ascend e ⌝ }
 {
     let n = e.extents as usize;
     let list = e.extent;
     let mut i = 0;
     while i < n {
-        if !holds_at(rule, list, i) {
+        if !holds_at(Rule::Follows, list, i) {
             return false;
         }
         i += 1;
@@ -88,41 +90,59 @@ fn holds(rule: Rule, e: Extents) -> bool
     true
 }
 
-pub fn ascend(e: Extents) -> bool
-    ensures { λ r. ⌜ r ≡ ascend e ⌝ }
+// The first extent of a guest that breaks the rule.
+fn first_in(rule: Rule, e: Extents) -> Found
+    ensures { λ r. ⌜ r ≡ firstBelow extentLimit (breaks (ruleOf rule) e) ⌝ }
 {
-    holds(Rule::Ascend, e)
+    let n = least(e.extents as usize, EXTENTS);
+    let list = e.extent;
+    let mut i = 0;
+    while i < n {
+        if !holds_at(rule, list, i) {
+            return Found::At(i);
+        }
+        i += 1;
+    }
+    Found::Nothing
 }
 
-fn all_hold(rule: Rule, guests: u8, guest: [Guest; GUESTS]) -> bool
-    ensures { λ r. ⌜ r ≡ allHold rule guests guest ⌝ }
+// The first extent on the host that breaks the rule: by guest, and then by position.
+fn first_breaking(rule: Rule, t: Tables) -> Found
+    ensures { λ r. ⌜ r ≡ firstBreaking (ruleOf rule) t ⌝ }
 {
-    // Past the limit no guest has an extent.
-    let n = least(guests as usize, GUESTS);
+    let guest = t.guest;
     let mut g = 0;
-    while g < n {
+    while g < GUESTS {
         let at = guest[g];
         let e = at.extents;
-        if !holds(rule, e) {
-            return false;
+        let found = first_in(rule, e);
+        if let Found::At(i) = found {
+            return Found::At(EXTENTS * g + i);
         }
         g += 1;
     }
-    true
+    Found::Nothing
 }
 
-pub fn extents_all_right(t: Tables) -> bool
-    ensures { λ r. ⌜ r ≡ allBelow (t .guests) (λ g. extentsRight (guestAt t g .extents)) ⌝ }
+pub fn wrong_numbers(t: Tables) -> Found
+    ensures { λ r. ⌜ r ≡ firstBreaking rightAt t ⌝ }
 {
-    let guest = t.guest;
-    all_hold(Rule::Right, t.guests, guest)
+    first_breaking(Rule::Right, t)
 }
 
-pub fn all_ascend(t: Tables) -> bool
-    ensures { λ r. ⌜ r ≡ allBelow (t .guests) (λ g. ascend (guestAt t g .extents)) ⌝ }
+pub fn out_of_order(t: Tables) -> Found
+    ensures { λ r. ⌜ r ≡ firstBreaking follows t ⌝ }
 {
-    let guest = t.guest;
-    all_hold(Rule::Ascend, t.guests, guest)
+    first_breaking(Rule::Follows, t)
+}
+
+fn is_found(found: Found) -> bool
+    ensures { λ r. ⌜ r ≡ isFound found ⌝ }
+{
+    match found {
+        Found::Nothing => false,
+        Found::At(_) => true,
+    }
 }
 
 // Every run of host pages, side by side.
@@ -158,24 +178,31 @@ fn share(x: Extent, y: Extent) -> bool
     start < least(x_end, y_end)
 }
 
-pub fn pages_shared(t: Tables) -> bool
-    ensures { λ r. ⌜ r ≡ pagesShared t ⌝ }
+// The first run that shares a page with one before it. Of two pairs that is the one whose later run comes first.
+pub fn shares_before(t: Tables) -> Found
+    ensures { λ r. ⌜ r ≡ sharesBefore t ⌝ }
 {
     let runs = runs(t);
-    let mut found = false;
+    let mut shared = Found::Nothing;
     let mut j = 0;
     'pairs: while j < RUNS {
         let mut i = 0;
         while i < j {
             if share(runs[i], runs[j]) {
-                found = true;
+                shared = Found::At(j);
                 break 'pairs;
             }
             i += 1;
         }
         j += 1;
     }
-    found
+    shared
+}
+
+pub fn pages_shared(t: Tables) -> bool
+    ensures { λ r. ⌜ r ≡ pagesShared t ⌝ }
+{
+    is_found(shares_before(t))
 }
 
 // What every place for a source names, side by side.
@@ -217,22 +244,29 @@ fn alike(x: Name, y: Name) -> bool
     (x.listed & y.listed) & ((x.devhandle == y.devhandle) & (x.devino == y.devino))
 }
 
-pub fn source_twice(t: Tables) -> bool
-    ensures { λ r. ⌜ r ≡ sourceTwice t ⌝ }
+// The first source that has the name of one before it.
+pub fn named_before(t: Tables) -> Found
+    ensures { λ r. ⌜ r ≡ namedBefore t ⌝ }
 {
     let names = names(t);
-    let mut found = false;
+    let mut twice = Found::Nothing;
     let mut j = 0;
     'pairs: while j < NAMES {
         let mut i = 0;
         while i < j {
             if alike(names[i], names[j]) {
-                found = true;
+                twice = Found::At(j);
                 break 'pairs;
             }
             i += 1;
         }
         j += 1;
     }
-    found
+    twice
+}
+
+pub fn source_twice(t: Tables) -> bool
+    ensures { λ r. ⌜ r ≡ sourceTwice t ⌝ }
+{
+    is_found(named_before(t))
 }

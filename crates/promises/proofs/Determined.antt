@@ -22,8 +22,9 @@ use Rattle.session.proofs.finish.Reads as finish-reads
 use Rattle.text.proofs.parse_line.Reads as parse-line-reads
 use Rattle.text.proofs.image_bytes.Reads as image-bytes-reads
 use Rattle.text.proofs.numbers_of.Reads as numbers-of-reads
+use Rattle.text.proofs.loading_numbers.Reads as loading-numbers-reads
 use Rattle.text.proofs.put_answer.Reads as put-answer-reads
-use Rattle.text.proofs.put_status.Reads as put-status-reads
+use Rattle.text.proofs.put_loading.Reads as put-loading-reads
 use Rattle.text.proofs.put_bad.Reads as put-bad-reads
 
 -- image::load: the answer and the tables
@@ -63,11 +64,14 @@ image-bytes-determined κs a r s ws vs p q = (p .0 ∙ sym (q .0), p .1 ∙ sym 
 pub numbers-of-determined : (κs : _) (a : _) (r s : _) (ws vs : _) → numbers-of-reads.Post κs a r ws → numbers-of-reads.Post κs a s vs → r ≡ s
 numbers-of-determined κs a r s ws vs p q = p ∙ sym q
 
+pub loading-numbers-determined : (κs : _) (a : _) (r s : _) (ws vs : _) → loading-numbers-reads.Post κs a r ws → loading-numbers-reads.Post κs a s vs → r ≡ s
+loading-numbers-determined κs a r s ws vs p q = p ∙ sym q
+
 pub put-answer-determined : (κs : _) (a : _) (r s : _) (ws vs : _) → put-answer-reads.Post κs a r ws → put-answer-reads.Post κs a s vs → (r ≡ s) × (now (ws .1 .0) ≡ now (vs .1 .0))
 put-answer-determined κs a r s ws vs p q = (p .0 ∙ sym (q .0), p .1 ∙ sym (q .1))
 
-pub put-status-determined : (κs : _) (a : _) (r s : _) (ws vs : _) → put-status-reads.Post κs a r ws → put-status-reads.Post κs a s vs → (r ≡ s) × (now (ws .1 .0) ≡ now (vs .1 .0))
-put-status-determined κs a r s ws vs p q = (p .0 ∙ sym (q .0), p .1 ∙ sym (q .1))
+pub put-loading-determined : (κs : _) (a : _) (r s : _) (ws vs : _) → put-loading-reads.Post κs a r ws → put-loading-reads.Post κs a s vs → (r ≡ s) × (now (ws .1 .0) ≡ now (vs .1 .0))
+put-loading-determined κs a r s ws vs p q = (p .0 ∙ sym (q .0), p .1 ∙ sym (q .1))
 
 pub put-bad-determined : (κs : _) (a : _) (r s : _) (ws vs : _) → put-bad-reads.Post κs a r ws → put-bad-reads.Post κs a s vs → (r ≡ s) × (now (ws .0) ≡ now (vs .0))
 put-bad-determined κs a r s ws vs p q = (p .0 ∙ sym (q .0), p .1 ∙ sym (q .1))

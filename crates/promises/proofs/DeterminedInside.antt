@@ -13,10 +13,12 @@ use Rattle.memory.proofs.bytes64.Reads as bytes64-reads
 use Rattle.memory.proofs.word_bytes.Reads as word-bytes-reads
 use Rattle.partition.proofs.extent_right.Reads as extent-right-reads
 use Rattle.partition.proofs.ascend.Reads as ascend-reads
-use Rattle.partition.proofs.extents_all_right.Reads as extents-all-right-reads
-use Rattle.partition.proofs.all_ascend.Reads as all-ascend-reads
+use Rattle.partition.proofs.wrong_numbers.Reads as wrong-numbers-reads
+use Rattle.partition.proofs.out_of_order.Reads as out-of-order-reads
 use Rattle.partition.proofs.runs.Reads as runs-reads
+use Rattle.partition.proofs.shares_before.Reads as shares-before-reads
 use Rattle.partition.proofs.pages_shared.Reads as pages-shared-reads
+use Rattle.partition.proofs.named_before.Reads as named-before-reads
 use Rattle.partition.proofs.source_twice.Reads as source-twice-reads
 use Rattle.records.proofs.is_right.Reads as is-right-reads
 use Rattle.records.proofs.judge_ring.Reads as judge-ring-reads
@@ -77,17 +79,23 @@ extent-right-determined κs a r s ws vs p q = p ∙ sym q
 pub ascend-determined : (κs : _) (a : _) (r s : _) (ws vs : _) → ascend-reads.Post κs a r ws → ascend-reads.Post κs a s vs → r ≡ s
 ascend-determined κs a r s ws vs p q = p ∙ sym q
 
-pub extents-all-right-determined : (κs : _) (a : _) (r s : _) (ws vs : _) → extents-all-right-reads.Post κs a r ws → extents-all-right-reads.Post κs a s vs → r ≡ s
-extents-all-right-determined κs a r s ws vs p q = p ∙ sym q
+pub wrong-numbers-determined : (κs : _) (a : _) (r s : _) (ws vs : _) → wrong-numbers-reads.Post κs a r ws → wrong-numbers-reads.Post κs a s vs → r ≡ s
+wrong-numbers-determined κs a r s ws vs p q = p ∙ sym q
 
-pub all-ascend-determined : (κs : _) (a : _) (r s : _) (ws vs : _) → all-ascend-reads.Post κs a r ws → all-ascend-reads.Post κs a s vs → r ≡ s
-all-ascend-determined κs a r s ws vs p q = p ∙ sym q
+pub out-of-order-determined : (κs : _) (a : _) (r s : _) (ws vs : _) → out-of-order-reads.Post κs a r ws → out-of-order-reads.Post κs a s vs → r ≡ s
+out-of-order-determined κs a r s ws vs p q = p ∙ sym q
 
 pub runs-determined : (κs : _) (a : _) (r s : _) (ws vs : _) → runs-reads.Post κs a r ws → runs-reads.Post κs a s vs → r ≡ s
 runs-determined κs a r s ws vs p q = p ∙ sym q
 
+pub shares-before-determined : (κs : _) (a : _) (r s : _) (ws vs : _) → shares-before-reads.Post κs a r ws → shares-before-reads.Post κs a s vs → r ≡ s
+shares-before-determined κs a r s ws vs p q = p ∙ sym q
+
 pub pages-shared-determined : (κs : _) (a : _) (r s : _) (ws vs : _) → pages-shared-reads.Post κs a r ws → pages-shared-reads.Post κs a s vs → r ≡ s
 pages-shared-determined κs a r s ws vs p q = p ∙ sym q
+
+pub named-before-determined : (κs : _) (a : _) (r s : _) (ws vs : _) → named-before-reads.Post κs a r ws → named-before-reads.Post κs a s vs → r ≡ s
+named-before-determined κs a r s ws vs p q = p ∙ sym q
 
 pub source-twice-determined : (κs : _) (a : _) (r s : _) (ws vs : _) → source-twice-reads.Post κs a r ws → source-twice-reads.Post κs a s vs → r ≡ s
 source-twice-determined κs a r s ws vs p q = p ∙ sym q

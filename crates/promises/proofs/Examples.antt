@@ -1,7 +1,7 @@
 -- Promise: the rules answer as the paper's examples say. The lists and their proofs stand beside the rules they speak of, in
 -- crate rules, so that a wrong rule is refused there; these are the claims.
 use mathlib.Core.Path.{_≡_}
-use Rattle.rules.specs.declared.Answer.the-variants.{Done}
+use Rattle.rules.specs.declared.Loading.{Loading}
 use Rattle.rules.specs.Image.{load}
 use Rattle.rules.proofs.Examples.{cases, Hold, examples, workedImage, workedTables, worked-image}
 use Rattle.rules.proofs.AcceptedCalls.{AcceptedCalls, accepted-calls}
@@ -18,7 +18,7 @@ use Rattle.rules.proofs.TextCases.{TextCases, text-cases}
 use Rattle.rules.proofs.KeptCases.{KeptCases, kept-cases}
 
 -- the image of the worked session loads to the tables that one expects
-pub the-worked-image : load workedImage ≡ record { answer = Done; tables = workedTables }
+pub the-worked-image : load workedImage ≡ record { answer = Loading.Accepted; tables = workedTables }
 the-worked-image = worked-image
 
 -- every case that the paper marks P holds

@@ -4,12 +4,13 @@ use mathlib.Core.Bool.{Bool, true, false, _&&_, not}
 use Prim.Native.Nat.{ℕ, _%_}
 use lib.Dec.{eqb}
 use Rattle.rules.specs.declared.Call.{Call}
+use Rattle.rules.specs.declared.Found.{Found}
 use Rattle.rules.specs.declared.Function.{Function}
 use Rattle.rules.specs.declared.Plant.{Plant}
 use Rattle.rules.specs.declared.Refusal.{Refusal}
 use Rattle.rules.specs.declared.Refusal.the-variants.{EINVAL, EBADALIGN, ENORADDR}
 use Rattle.rules.specs.Real.{Sight}
-use Rattle.rules.specs.Rulings.{Ruling, refused, granted, Outcome, outcomeOf, _or-refuse_then_, _grants_, if_then_else_}
+use Rattle.rules.specs.Rulings.{RulingBy, Ruling, refused, granted, Outcome, outcomeOf, _or-refuse_then_, _refuses_then_, _grants_, if_then_else_}
 use Rattle.rules.specs.Memory.{wholePages, wholeWord}
 use Rattle.rules.specs.Calls.{functionOf, admitted, perform, call}
 use Rattle.records.proofs.Told.{told-right}
@@ -17,25 +18,29 @@ use Rattle.kept.proofs.Accepted.{granted-same}
 use Rattle.calls.proofs.DispatchLaws.{admitted-itself}
 
 -- P holds of what the ruling grants, if it does
-abbrev pub Granting : {A : Type 0} → (A → Type 0) → Ruling A → Type 0
+abbrev pub Granting : {R A : Type 0} → (A → Type 0) → RulingBy R A → Type 0
 Granting P (refused r) = Unit {0}
 Granting P (granted a) = P a
 
-module _ {A : Type 0} (P : A → Type 0) where
-  pub by-then : (t : Bool) (r : Refusal) (x : Ruling A) → Granting P x → Granting P (t or-refuse r then x)
+module _ {R A : Type 0} (P : A → Type 0) where
+  pub by-then : (t : Bool) (r : R) (x : RulingBy R A) → Granting P x → Granting P (t or-refuse r then x)
   by-then true r x h = h
   by-then false r x h = tt
 
-  pub by-if : (t : Bool) (x y : Ruling A) → Granting P x → Granting P y → Granting P (if t then x else y)
+  pub by-scan : (found : Found) (r : ℕ → R) (x : RulingBy R A) → Granting P x → Granting P (found refuses r then x)
+  by-scan Found.Nothing r x h = h
+  by-scan (Found.At k) r x h = tt
+
+  pub by-if : (t : Bool) (x y : RulingBy R A) → Granting P x → Granting P y → Granting P (if t then x else y)
   by-if true x y h k = h
   by-if false x y h k = k
 
-  pub by-value : {B : Type 0} (m : Ruling B) (k : B → Ruling A) → ((b : B) → m ≡ granted b → Granting P (k b)) → Granting P (m grants k)
+  pub by-value : {B : Type 0} (m : RulingBy R B) (k : B → RulingBy R A) → ((b : B) → m ≡ granted b → Granting P (k b)) → Granting P (m grants k)
   by-value (refused r) k h = tt
   by-value (granted b) k h = h b refl
 
   -- of the value itself
-  pub granted-has : (x : Ruling A) (a : A) → Granting P x → x ≡ granted a → P a
+  pub granted-has : (x : RulingBy R A) (a : A) → Granting P x → x ≡ granted a → P a
   granted-has x a h e = rw e at h
 
 -- What a plant's event comes to: what its rule grants, or what a refusal leaves.

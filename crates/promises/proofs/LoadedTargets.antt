@@ -1,24 +1,21 @@
 -- After loading, whatever the image, each source's target is cpu 0 (request No. 7).
 use mathlib.Core.Path.{_≡_, refl}
-use mathlib.Core.Bool.{not}
 use mathlib.Core.List.{List}
 use Prim.Native.Nat.{ℕ, zero, suc, _+_, _*_}
 use lib.ListN.{getD, set, replicate}
 use Rattle.rules.specs.declared.Guest.{Guest}
-use Rattle.rules.specs.declared.Refusal.the-variants.{ImageShort, ImageBad}
+use Rattle.rules.specs.declared.ImageRefusal.the-variants.{ImageShort, ExtentNumbers, ExtentOrder, PagesShared, SourceTwice, FillOrBehind}
 use Rattle.rules.specs.declared.Source.{Source}
 use Rattle.rules.specs.declared.Tables.{Tables}
 use Rattle.rules.specs.Limits.{guestLimit, sourceLimit}
-use Rattle.rules.specs.Scan.{allBelow}
-use Rattle.rules.specs.Kept.{blankSource, blankGuest, hollowGuest, noGuests, guestAt, sourceAt}
+use Rattle.rules.specs.Kept.{blankSource, blankGuest, hollowGuest, noGuests, sourceAt}
 use Rattle.rules.specs.Bits.{reaches}
-use Rattle.rules.specs.Rulings.{Ruling, refused, granted}
+use Rattle.rules.specs.Rulings.{refused, granted}
 use Rattle.rules.specs.Widths.{headerBits, countsBits, extentBits, sourceBits}
-use Rattle.rules.specs.Image.{filled, readSource, readLists, readGuest, Partition, readGuests, behind, extentsRight, ascend, pagesShared, sourceTwice, filledOut, judged, readImage, loadedAs, load}
+use Rattle.rules.specs.Image.{Reading, filled, readSource, readLists, readGuest, Partition, readGuests, behind, readHeader, Fields, readFields, rightAt, follows, at-extent, at-source, firstBreaking, sharesBefore, namedBefore, filledOut, judged, readImage, loadedAs, load}
 use Rattle.image.proofs.GuestLaws.{cpusRead, extentsRead, sourcesRead}
-use Rattle.image.proofs.FieldsLaws.{editionRead, guestsRead}
 use Rattle.kept.proofs.Lists.{set-either}
-use Rattle.promises.proofs.Granting.{Granting, by-then, by-value, granted-has}
+use Rattle.promises.proofs.Granting.{Granting, by-then, by-scan, by-value, granted-has}
 
 -- what holds of an element and of what stands past the end holds at every place
 in-all : {A : Type 0} (P : A → Type 0) (n i : ℕ) (x d : A) → P x → P d → P (getD (replicate n x) i d)
@@ -44,12 +41,12 @@ AllToZero l = (g : ℕ) → ToZero (getD l g hollowGuest)
 blank-zero : AllToZero (replicate guestLimit blankGuest)
 blank-zero g = in-all ToZero guestLimit g blankGuest hollowGuest (λ i. in-all ZeroTarget sourceLimit i blankSource blankSource refl refl) (λ i. refl)
 
-guest-zero : (bytes : List ℕ) (at : ℕ) → Granting ToZero (readGuest bytes at)
+guest-zero : (bytes : List ℕ) (n at : ℕ) → Granting ToZero (readGuest bytes n at)
 unfolding readGuest readLists
-guest-zero bytes at =
-    by-value ToZero (cpusRead bytes at) _ (λ cpus _.
-    by-value ToZero (extentsRead bytes at) _ (λ extents _.
-    by-value ToZero (sourcesRead bytes at) _ (λ sources _.
+guest-zero bytes n at =
+    by-value ToZero (cpusRead bytes n at) _ (λ cpus _.
+    by-value ToZero (extentsRead bytes n at) _ (λ extents _.
+    by-value ToZero (sourcesRead bytes n at) _ (λ sources _.
     by-then ToZero (reaches bytes (at + countsBits + extentBits * extents + sourceBits * sources)) ImageShort _ (λ i.
     in-filled ZeroTarget sourceLimit sources i blankSource (λ k. readSource bytes (at + countsBits + extentBits * extents + sourceBits * k)) refl (λ k. refl)))))
 
@@ -60,37 +57,44 @@ guests-zero : (bytes : List ℕ) (k at i : ℕ) (guest : List Guest) → AllToZe
 unfolding readGuests
 guests-zero bytes zero at i guest h = h
 guests-zero bytes (suc k) at i guest h =
-    by-value ReadToZero (readGuest bytes at) _ (λ next e.
+    by-value ReadToZero (readGuest bytes i at) _ (λ next e.
     guests-zero bytes k (behind at next) (i + 1) (set guest i next) (λ g.
-    set-either ToZero guest i g next hollowGuest (λ _. granted-has ToZero (readGuest bytes at) next (guest-zero bytes at) e) (h g)))
+    set-either ToZero guest i g next hollowGuest (λ _. granted-has ToZero (readGuest bytes i at) next (guest-zero bytes i at) e) (h g)))
 
--- the later rules refuse an image or leave the tables as they were read
 abbrev TablesToZero : Tables → Type 0
 TablesToZero tables = AllToZero (tables .guest)
 
+abbrev FieldsToZero : Fields → Type 0
+FieldsToZero fields = TablesToZero (fields .tables)
+
+fields-zero : (bytes : List ℕ) → Granting FieldsToZero (readFields bytes)
+unfolding readFields
+fields-zero bytes =
+    by-value FieldsToZero (readHeader bytes) _ (λ guests _.
+    let read : Reading Partition = readGuests bytes guests headerBits 0 (replicate guestLimit blankGuest) in
+    by-value FieldsToZero read _ (λ p e.
+    granted-has ReadToZero read p (guests-zero bytes guests headerBits 0 (replicate guestLimit blankGuest) blank-zero) e))
+
+-- the later rules refuse an image or leave the tables as they were read
 judged-zero : (bytes : List ℕ) (end : ℕ) (tables : Tables) → TablesToZero tables → Granting TablesToZero (judged bytes end tables)
 unfolding judged
 judged-zero bytes end tables h =
-    by-then TablesToZero (allBelow (tables .guests) (λ g. extentsRight (guestAt tables g .extents))) ImageBad _
-    (by-then TablesToZero (allBelow (tables .guests) (λ g. ascend (guestAt tables g .extents))) ImageBad _
-    (by-then TablesToZero (not (pagesShared tables)) ImageBad _
-    (by-then TablesToZero (not (sourceTwice tables)) ImageBad _
-    (by-then TablesToZero (filledOut bytes end) ImageBad (granted tables) h))))
+    by-scan TablesToZero (firstBreaking rightAt tables) (at-extent ExtentNumbers) _
+    (by-scan TablesToZero (firstBreaking follows tables) (at-extent ExtentOrder) _
+    (by-scan TablesToZero (sharesBefore tables) (at-extent PagesShared) _
+    (by-scan TablesToZero (namedBefore tables) (at-source SourceTwice) _
+    (by-then TablesToZero (filledOut bytes end) (FillOrBehind (tables .guests)) (granted tables) h))))
 
 image-zero : (bytes : List ℕ) → Granting TablesToZero (readImage bytes)
 unfolding readImage
 image-zero bytes =
-    by-value TablesToZero (editionRead bytes) _ (λ edition _.
-    by-value TablesToZero (guestsRead bytes) _ (λ guests _.
-    let read : Ruling Partition = readGuests bytes guests headerBits 0 (replicate guestLimit blankGuest) in
-    by-value TablesToZero read _ (λ p e.
-    judged-zero bytes (p .end) (record { guests = guests; guest = p .guest })
-    (granted-has ReadToZero read p (guests-zero bytes guests headerBits 0 (replicate guestLimit blankGuest) blank-zero) e))))
+    by-value TablesToZero (readFields bytes) _ (λ fields e.
+    judged-zero bytes (fields .end) (fields .tables) (granted-has FieldsToZero (readFields bytes) fields (fields-zero bytes) e))
 
 pub loaded-zero : (bytes : List ℕ) → TablesToZero (load bytes .tables)
 unfolding load noGuests
 loaded-zero bytes = go (readImage bytes) (image-zero bytes)
   where
-    go : (x : Ruling Tables) → Granting TablesToZero x → TablesToZero (loadedAs x .tables)
+    go : (x : Reading Tables) → Granting TablesToZero x → TablesToZero (loadedAs x .tables)
     go (refused r) h = blank-zero
     go (granted tables) h = h

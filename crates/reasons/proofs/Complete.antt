@@ -6,10 +6,13 @@ use Prim.Native.Nat.{ℕ}
 use lib.Dec.{eqb}
 use lib.ListN.{getD}
 use Rattle.rules.specs.declared.Refusal.{Refusal}
-use Rattle.rules.specs.declared.Refusal.the-variants.{ENOCPU, ENORADDR, EBADPGSZ, EBADTSB, EINVAL, EBADTRAP, EBADALIGN, EWOULDBLOCK, ENOTSUPPORTED, BadTables, ShortMemory, NoCaller, NoSource, ImageShort, ImageBad}
+use Rattle.rules.specs.declared.Refusal.the-variants.{ENOCPU, ENORADDR, EBADPGSZ, EBADTSB, EINVAL, EBADTRAP, EBADALIGN, EWOULDBLOCK, ENOTSUPPORTED, BadTables, ShortMemory, NoCaller, NoSource}
+use Rattle.rules.specs.declared.ImageRefusal.{ImageRefusal}
+use Rattle.rules.specs.declared.ImageRefusal.the-variants.{ImageShort, HeaderOrCount, ExtentNumbers, ExtentOrder, PagesShared, SourceTwice, FillOrBehind}
+use Rattle.rules.specs.declared.Loading.{Loading}
 use Rattle.rules.specs.declared.Answer.{Answer}
 use Rattle.rules.specs.declared.Answer.the-variants.{Done, One, Two, Refused}
-use Rattle.rules.specs.Statuses.{statusOf, numbers}
+use Rattle.rules.specs.Statuses.{statusOf, numbers, imageNumbers, loadingNumbers}
 use Rattle.reasons.specs.Words.{Meaning, meanings}
 
 -- the status stands in the table
@@ -32,8 +35,6 @@ refusal-listed BadTables = refl
 refusal-listed ShortMemory = refl
 refusal-listed NoCaller = refl
 refusal-listed NoSource = refl
-refusal-listed ImageShort = refl
-refusal-listed ImageBad = refl
 
 pub every-status : (answer : Answer) → listed meanings (getD (numbers answer) 0 0) ≡ true
 unfolding listed meanings numbers
@@ -41,3 +42,18 @@ every-status Done = refl
 every-status (One v) = refl
 every-status (Two v w) = refl
 every-status (Refused why) = refusal-listed why
+
+image-listed : (why : ImageRefusal) → listed meanings (getD (imageNumbers why) 0 0) ≡ true
+unfolding listed meanings imageNumbers
+image-listed ImageShort = refl
+image-listed (HeaderOrCount guest) = refl
+image-listed (ExtentNumbers guest at) = refl
+image-listed (ExtentOrder guest at) = refl
+image-listed (PagesShared guest at) = refl
+image-listed (SourceTwice guest at) = refl
+image-listed (FillOrBehind guests) = refl
+
+pub every-loading : (answer : Loading) → listed meanings (getD (loadingNumbers answer) 0 0) ≡ true
+unfolding listed meanings loadingNumbers
+every-loading Loading.Accepted = refl
+every-loading (Loading.Refused why) = image-listed why

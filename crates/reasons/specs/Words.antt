@@ -44,7 +44,12 @@ meanings =
     ∷ 103 means "67 (103): no such guest or cpu"
     ∷ 104 means "68 (104): no such source"
     ∷ 110 means "6e (110): the image ends before its last field; no guest is left"
-    ∷ 111 means "6f (111): the image breaks a rule; no guest is left"
+    ∷ 111 means "6f (111): the header or a count is outside its limits; value 1 is its guest (0: or the header); no guest is left"
+    ∷ 112 means "70 (112): an extent's numbers are outside their limits; values 1, 2: its guest, its position; no guest is left"
+    ∷ 113 means "71 (113): an extent starts before the one before it ends; values 1, 2: its guest, its position; no guest is left"
+    ∷ 114 means "72 (114): an extent shares a host page with an earlier one; values 1, 2: its guest, its position; no guest is left"
+    ∷ 115 means "73 (115): a source has the name of an earlier one; values 1, 2: its guest, its position; no guest is left"
+    ∷ 116 means "74 (116): fill bits are not 0, or bytes stand behind; value 1 is the number of guests; no guest is left"
     ∷ []
 
 abbrev pub noMeaning : String

@@ -12,7 +12,51 @@ use crate::put::ROOM;
 use crate::put::put_decimal;
 use crate::put::put_text;
 
-// What a status means: those behind the eighth of the table.
+// What a status means: those of loading, behind the fourteenth of the table.
+fn put_image_meaning(status: u64, out: &mut [u8; ROOM]) -> usize
+    ensures { λ r. ⌜ Put (now (out .entry)) (now (out .exit)) 0 r (fed (bytesOf (meaningIn (drop 14 meanings) status))) ⌝ }
+{
+    match status {
+        110 => put_text(
+            b"6e (110): the image ends before its last field; no guest is left\n",
+            0,
+            out,
+        ),
+        111 => put_text(
+            b"6f (111): the header or a count is outside its limits; value 1 is its guest (0: or the header); no guest is left\n",
+            0,
+            out,
+        ),
+        112 => put_text(
+            b"70 (112): an extent's numbers are outside their limits; values 1, 2: its guest, its position; no guest is left\n",
+            0,
+            out,
+        ),
+        113 => put_text(
+            b"71 (113): an extent starts before the one before it ends; values 1, 2: its guest, its position; no guest is left\n",
+            0,
+            out,
+        ),
+        114 => put_text(
+            b"72 (114): an extent shares a host page with an earlier one; values 1, 2: its guest, its position; no guest is left\n",
+            0,
+            out,
+        ),
+        115 => put_text(
+            b"73 (115): a source has the name of an earlier one; values 1, 2: its guest, its position; no guest is left\n",
+            0,
+            out,
+        ),
+        116 => put_text(
+            b"74 (116): fill bits are not 0, or bytes stand behind; value 1 is the number of guests; no guest is left\n",
+            0,
+            out,
+        ),
+        _ => put_text(b"no status of the rules\n", 0, out),
+    }
+}
+
+// The same: those behind the eighth.
 fn put_later_meaning(status: u64, out: &mut [u8; ROOM]) -> usize
     ensures { λ r. ⌜ Put (now (out .entry)) (now (out .exit)) 0 r (fed (bytesOf (meaningIn (drop 8 meanings) status))) ⌝ }
 {
@@ -35,17 +79,7 @@ fn put_later_meaning(status: u64, out: &mut [u8; ROOM]) -> usize
         ),
         103 => put_text(b"67 (103): no such guest or cpu\n", 0, out),
         104 => put_text(b"68 (104): no such source\n", 0, out),
-        110 => put_text(
-            b"6e (110): the image ends before its last field; no guest is left\n",
-            0,
-            out,
-        ),
-        111 => put_text(
-            b"6f (111): the image breaks a rule; no guest is left\n",
-            0,
-            out,
-        ),
-        _ => put_text(b"no status of the rules\n", 0, out),
+        _ => put_image_meaning(status, out),
     }
 }
 

@@ -4,7 +4,7 @@ use mathlib.Core.Path.{_≡_, refl}
 use mathlib.Core.List.{List, [], _∷_}
 use Prim.Native.Nat.{ℕ}
 use lib.ListN.{replicate}
-use Rattle.rules.specs.Types.{Event}
+use Rattle.rules.specs.Types.{Event, Done}
 use Rattle.rules.specs.Kept.{plantAt, extentsOf}
 use Rattle.rules.specs.Real.{sightOf}
 use Rattle.rules.specs.Rulings.{outcomeOf, Outcome}
@@ -86,7 +86,7 @@ abbrev pub wideImage : List ℕ
 wideImage = 0x11 ∷ 0x32 ∷ 0x00 ∷ 0x00 ∷ 0x00 ∷ 0x00 ∷ 0x00 ∷ 0x06 ∷ 0x00 ∷ 0x00 ∷ []
 
 abbrev pub wide : HostOutcome
-wide = record { answer = load wideImage .answer; tables = load wideImage .tables; memory = replicate 49152 0 }
+wide = record { answer = Done; tables = load wideImage .tables; memory = replicate 49152 0 }
 
 -- a mondo from cpu 0 to the list 1, 2 stands in both rings
 abbrev pub mondoToTwo : List Step

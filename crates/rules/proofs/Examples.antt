@@ -2,7 +2,7 @@
 use mathlib.Core.Path.{_≡_, refl}
 use mathlib.Core.List.{List, [], _∷_, _++_}
 use Prim.Native.Nat.{ℕ, _-_, _^_}
-use Rattle.rules.specs.Types.{Event, Done}
+use Rattle.rules.specs.Types.{Event, Done, Loading}
 use Rattle.rules.specs.Statuses.{numbers}
 use Rattle.rules.specs.Image.{load}
 use Rattle.rules.specs.Host.{HostOutcome, hostEvent}
@@ -11,7 +11,7 @@ use Rattle.rules.proofs.Computing.{computing}
 pub use Rattle.rules.proofs.Worked.{workedImage, workedGuest, workedTables, call}
 
 -- the worked image loads to these tables
-pub worked-image : load workedImage ≡ record { answer = Done; tables = workedTables }
+pub worked-image : load workedImage ≡ record { answer = Loading.Accepted; tables = workedTables }
 unfolding computing
 worked-image = refl
 
@@ -29,7 +29,7 @@ after o (event ∷ events) = after (next o event) events
 
 -- the session's host, with the image loaded
 abbrev pub start : HostOutcome
-start = record { answer = load workedImage .answer; tables = load workedImage .tables; memory = begin .memory }
+start = record { answer = Done; tables = load workedImage .tables; memory = begin .memory }
 
 abbrev pub ring : ℕ → ℕ → Event
 ring base n = call 0x80 0x14 0x3c base n

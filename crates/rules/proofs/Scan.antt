@@ -1,13 +1,13 @@
 -- Laws of the scans, for any loop that counts up: i is the loop's index, n its end, and t what the code's test at i came to.
-use mathlib.Core.Bool.{Bool, true, false, or-true, and-false, true≢false, false≢true}
-use mathlib.Core.Path.{_≡_, refl, sym, _∙_}
+use mathlib.Core.Bool.{Bool, true, false, _||_, or-true, and-false, true≢false, false≢true}
+use mathlib.Core.Path.{_≡_, refl, sym, ap, _∙_}
 use mathlib.Core.Logic.{⊎-elim}
 use Prim.Native.Nat.{ℕ, zero, suc, _+_, _<_, _≤_}
 use native.Mathlib.Nat.{eq-or-lt-of-le}
 use native.Mathlib.Numerals.{add-one}
 use native.Mathlib.Omega.{arith}
 use Rattle.rules.specs.Types.{Found}
-use Rattle.rules.specs.Scan.{someBelow, allBelow, firstBelow, foundOr}
+use Rattle.rules.specs.Scan.{someBelow, allBelow, firstBelow, foundOr, isFound}
 
 -- a search for some number
 module _ (p : ℕ → Bool) where
@@ -57,14 +57,6 @@ pub all-same : (p q : ℕ → Bool) (n : ℕ) → ((i : ℕ) → i < n → p i �
 unfolding allBelow
 all-same p q zero f = refl
 all-same p q (suc n) f = rw (all-same p q n (λ i h. f i (omega arith)), f n (omega arith))
-
--- a search in a search: of the pairs (i, j) with i below j
-module _ (p : ℕ → ℕ → Bool) where
-  pub pairs-next : (j i : ℕ) → someBelow j (λ k. someBelow k (λ m. p k m)) ≡ false → someBelow i (λ m. p j m) ≡ false → i ≤ j → j ≤ i → someBelow (j + 1) (λ k. someBelow k (λ m. p k m)) ≡ false
-  pairs-next j i a b u v = some-next _ j false a (some-end _ i j b u v) refl
-
-  pub pairs-found : (j i n : ℕ) (t : Bool) → i < j → j < n → t ≡ p j i → t ≡ true → true ≡ someBelow n (λ k. someBelow k (λ m. p k m))
-  pairs-found j i n t u v b e = some-at _ j n v (sym (some-found _ i j t u b e))
 
 -- a test of each number
 module _ (p : ℕ → Bool) where
@@ -129,6 +121,35 @@ module _ (p : ℕ → Bool) where
   pub first-found : (i n : ℕ) (t : Bool) → i < n → firstBelow i p ≡ Found.Nothing → t ≡ p i → t ≡ true → Found.At i ≡ firstBelow n p
   first-found i n t h a b e = first-at i n h a (sym b ∙ e)
 
+pub nothing-of : (p : ℕ → Bool) (n : ℕ) → ((i : ℕ) → i < n → p i ≡ false) → firstBelow n p ≡ Found.Nothing
+unfolding firstBelow
+nothing-of p zero f = refl
+nothing-of p (suc n) f = rw (nothing-of p n (λ i h. f i (omega arith)), f n (omega arith))
+
+-- tests that say the same of each number below n
+pub first-same : (p q : ℕ → Bool) (n : ℕ) → ((i : ℕ) → i < n → p i ≡ q i) → firstBelow n p ≡ firstBelow n q
+unfolding firstBelow
+first-same p q zero f = refl
+first-same p q (suc n) f = rw (first-same p q n (λ i h. f i (omega arith)), f n (omega arith))
+
+-- something is found where the test holds of some number
+pub found-some : (p : ℕ → Bool) (n : ℕ) → isFound (firstBelow n p) ≡ someBelow n p
+unfolding firstBelow someBelow
+found-some p zero = refl
+found-some p (suc n) = rw (← found-some p n) (go (firstBelow n p) (p n))
+  where
+    go : (x : Found) (t : Bool) → isFound (foundOr x t n) ≡ (isFound x || t)
+    go Found.Nothing true = refl
+    go Found.Nothing false = refl
+    go (Found.At i) t = refl
+
+-- of the numbers below n, where nothing is found
+pub unfound-at : (p : ℕ → Bool) (n i : ℕ) → isFound (firstBelow n p) ≡ false → i < n → p i ≡ false
+unfound-at p n i a h = none-at p n i (sym (found-some p n) ∙ a) h
+
+pub nothing-at : (p : ℕ → Bool) (n i : ℕ) → firstBelow n p ≡ Found.Nothing → i < n → p i ≡ false
+nothing-at p n i a h = unfound-at p n i (ap isFound a) h
+
 -- what is found lies below the limit
 pub first-below : (n i : ℕ) (p : ℕ → Bool) → firstBelow n p ≡ Found.At i → i < n
 unfolding firstBelow
@@ -139,3 +160,16 @@ first-below (suc n) i p e = go (λ q. first-below n i p q) (firstBelow n p) (p n
     go below Found.Nothing true q f = let z : n ≡ i = cc in omega arith
     go below Found.Nothing false q f = let z : _≡_ {A = ℕ} 0 1 = cc in absurd (omega arith)
     go below (Found.At j) t q f = omega (arith, below (q ∙ f))
+
+-- the test holds of what is found, and of no number before it
+pub first-tells : (p : ℕ → Bool) (n i : ℕ) → firstBelow n p ≡ Found.At i → (p i ≡ true) × (firstBelow i p ≡ Found.Nothing)
+unfolding firstBelow
+first-tells p zero i e = absurd (let z : _≡_ {A = ℕ} 0 1 = cc in omega arith)
+first-tells p (suc n) i e = go (λ q. first-tells p n i q) (firstBelow n p) (p n) refl refl e
+  where
+    go : (firstBelow n p ≡ Found.At i → (p i ≡ true) × (firstBelow i p ≡ Found.Nothing)) → (x : Found) (t : Bool) → firstBelow n p ≡ x → p n ≡ t → foundOr x t n ≡ Found.At i → (p i ≡ true) × (firstBelow i p ≡ Found.Nothing)
+    go before Found.Nothing true q u f =
+        let z : n ≡ i = cc in
+        (rw (← z) u, rw (← z) q)
+    go before Found.Nothing false q u f = absurd (let z : _≡_ {A = ℕ} 0 1 = cc in omega arith)
+    go before (Found.At j) t q u f = before (q ∙ f)

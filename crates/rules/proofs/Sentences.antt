@@ -14,7 +14,8 @@ use Rattle.rules.specs.Types.{Extent, Extents, Ring, Tables}
 use Rattle.rules.specs.Limits.{guestLimit, extentLimit, realPages, hostPages}
 use Rattle.rules.specs.Kept.{blankExtent, guestAt, extentAt, present, extentsOf, withTail}
 use Rattle.rules.specs.Real.{high, holds, reach, valid}
-use Rattle.rules.specs.Image.{extentRight, extentsRight, ascend}
+use Rattle.rules.specs.Scan.{allBelow}
+use Rattle.rules.specs.Image.{extentRight, ascend}
 use Rattle.rules.specs.Queues.{nextTail, hasRoom, forward}
 use Rattle.rules.specs.Rulings.{if_then_else_}
 use Rattle.rules.specs.Tables.{listRight, extentBlank, extentsKeep, guestKeeps, guestBlank, keepRules}
@@ -40,8 +41,11 @@ ends-early x e =
     omega (arith, leb-true (x .real + x .count) realPages (and-left _ (leb (x .host + x .count) hostPages) (and-right (leb 1 (x .count)) _ e)))
 
 -- of extents that keep the image's rule on each of them
+abbrev pub extentsRight : Extents → Bool
+extentsRight extents = allBelow (extents .extents) (λ i. extentRight (extentAt extents i))
+
 pub passing-invalid : (extents : Extents) → extentsRight extents ≡ true → (base n : ℕ) → base < 2 ^ 64 → 2 ^ 64 < base + n → valid (present extents) base n ≡ false
-unfolding extentsRight valid
+unfolding valid
 passing-invalid extents e base n b p =
     lt-leb (base + n) (reach (present extents) base) (omega (arith, reached (present extents) base (2 ^ 64) (omega arith) below))
   where
@@ -58,7 +62,7 @@ there limit count right blank e i h =
     rw (lt-ltb i count h) at (all-at (λ j. if ltb j count then right j else blank j) limit i (and-right (leb count limit) _ e) (omega arith))
 
 extents-right : (extents : Extents) → extentsKeep extents ≡ true → extentsRight extents ≡ true
-unfolding extentsKeep extentsRight
+unfolding extentsKeep
 extents-right extents e =
     all-of (λ i. extentRight (extentAt extents i)) (extents .extents)
     (there extentLimit (extents .extents) (λ i. extentRight (extentAt extents i)) (λ i. extentBlank (extentAt extents i))

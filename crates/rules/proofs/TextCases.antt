@@ -77,7 +77,7 @@ goodLines =
     ∷ "call 0 1 80 16" prints "67 0 0 0 0"
     ∷ "call 1 0 80 16" prints "67 0 0 0 0"
     -- "The image is any number of hex digits, none included, its spaces skipped"
-    ∷ "image  1 1 1 2000 00000 000 1 00 00 " prints "0" setting (majors 0 0 0 0 0 ∷ [])
+    ∷ "image  1 1 1 2000 00000 000 1 00 00 " prints "0 0 0" setting (majors 0 0 0 0 0 ∷ [])
     ∷ []
 
 -- a whole input and what is printed for it
@@ -93,13 +93,13 @@ runs =
     -- "each ended by a line feed or, unless empty, by the end": "one line for each, no header"
     run "" ""
     ∷ run "\n" "bad\n"
-    ∷ run "image" "6e\n"
-    ∷ run "image\n" "6e\n"
-    ∷ run "image\n\nx\nimage 10" "6e\nbad\nbad\n6f\n"
-    -- "for image the status, else the status and four values"; "starts with no guest and 32 KiB of zeroed memory"
+    ∷ run "image" "6e 0 0\n"
+    ∷ run "image\n" "6e 0 0\n"
+    ∷ run "image\n\nx\nimage 10" "6e 0 0\nbad\nbad\n6f 0 0\n"
+    -- for an image "a status and two values", else "the status and four values"; "starts with no guest and 32 KiB of zeroed memory"
     ∷ run "load 0 0\n" "67 0 0 0 0\n"
-    ∷ run "image 11 120 0000000 0001 0003\nload 0 1ff8\n" "0\n0 0 0 0 0\n"
-    ∷ run "image 11 120 0000000 0001 0004\nload 0 0\n" "0\n66 0 0 0 0\n"
+    ∷ run "image 11 120 0000000 0001 0003\nload 0 1ff8\n" "0 0 0\n0 0 0 0 0\n"
+    ∷ run "image 11 120 0000000 0001 0004\nload 0 0\n" "0 0 0\n66 0 0 0 0\n"
     ∷ []
 
 unfoldable pub outputs : List Run → List Run

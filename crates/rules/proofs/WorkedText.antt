@@ -21,7 +21,7 @@ workedInput =
 
 abbrev pub workedOutput : String
 workedOutput =
-    "0\n"
+    "0 0 0\n"
     ++ "0 0 0 0 0\n"
     ++ "0 0 0 0 0\n"
     ++ "0 0 0 0 0\n"

@@ -10,23 +10,34 @@
 -- In a proof `a ≡ b` is the statement that a and b are the same.
 use mathlib.Core.Bool.{Bool, true, false}
 use mathlib.Core.List.{List, []}
-use Rattle.rules.specs.Types.{Plant, Answer, Done, Refused, Refusal}
+use Prim.Native.Nat.{ℕ}
+use Rattle.rules.specs.Types.{Found, Plant, Answer, Done, Refused, Refusal}
 use Rattle.rules.specs.Real.{Write}
 
--- a rule refuses by a status and changes nothing, or grants what it says
-pub data Ruling (A : Type 0) : Type 0 where
-  refused : Refusal → Ruling A
-  granted : A → Ruling A
+-- a rule refuses by a status and changes nothing, or grants what it says; R is the type of its refusals
+pub data RulingBy (R A : Type 0) : Type 0 where
+  refused : R → RulingBy R A
+  granted : A → RulingBy R A
+
+-- the rules on events
+abbrev pub Ruling : Type 0 → Type 0
+Ruling A = RulingBy Refusal A
 
 -- TEST or-refuse STATUS then REST
 infixr 5 _or-refuse_then_
-abbrev pub _or-refuse_then_ : {A : Type 0} → Bool → Refusal → Ruling A → Ruling A
+abbrev pub _or-refuse_then_ : {R A : Type 0} → Bool → R → RulingBy R A → RulingBy R A
 _or-refuse_then_ true r rest = rest
 _or-refuse_then_ false r rest = refused r
 
+-- SCAN refuses STATUS then REST: what the scan finds is refused, and the status is told where it was found
+infixr 5 _refuses_then_
+abbrev pub _refuses_then_ : {R A : Type 0} → Found → (ℕ → R) → RulingBy R A → RulingBy R A
+_refuses_then_ Found.Nothing r rest = rest
+_refuses_then_ (Found.At k) r rest = refused (r k)
+
 -- RULING grants λ VALUE. REST
 infixr 5 _grants_
-abbrev pub _grants_ : {A B : Type 0} → Ruling A → (A → Ruling B) → Ruling B
+abbrev pub _grants_ : {R A B : Type 0} → RulingBy R A → (A → RulingBy R B) → RulingBy R B
 _grants_ (refused r) rest = refused r
 _grants_ (granted a) rest = rest a
 
@@ -37,7 +48,7 @@ if_then_else_ true this that = this
 if_then_else_ false this that = that
 
 -- the rule refuses nothing
-abbrev pub accepts : {A : Type 0} → Ruling A → Bool
+abbrev pub accepts : {R A : Type 0} → RulingBy R A → Bool
 accepts (refused r) = false
 accepts (granted a) = true
 

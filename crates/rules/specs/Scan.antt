@@ -33,3 +33,8 @@ foundOr (Found.At i) b n = Found.At i
 unfoldable pub firstBelow : ℕ → (ℕ → Bool) → Found
 firstBelow zero p = Found.Nothing
 firstBelow (suc n) p = foundOr (firstBelow n p) (p n) n
+
+-- the scan found something
+abbrev pub isFound : Found → Bool
+isFound Found.Nothing = false
+isFound (Found.At i) = true

@@ -2,10 +2,10 @@
 use mathlib.Core.List.{List, [], _∷_, _++_}
 use Prim.Native.Nat.{ℕ}
 use lib.Dec.{eqb}
-use lib.ListN.{replicate, take}
+use lib.ListN.{replicate}
 use Rattle.rules.specs.Types.{Tables, Loaded, Reply}
 use Rattle.rules.specs.Kept.{noGuests}
-use Rattle.rules.specs.Statuses.{numbers}
+use Rattle.rules.specs.Statuses.{numbers, loadingNumbers}
 use Rattle.rules.specs.Image.{load}
 use Rattle.rules.specs.Host.{HostOutcome, hostEvent}
 use Rattle.rules.specs.Rulings.{if_then_else_}
@@ -36,10 +36,11 @@ replied s bad = record { session = s; reply = Reply.Bad }
 replied s (image bytes) = afterImage s (load bytes)
 replied s (event e) = afterEvent (hostEvent (s .tables) (s .memory) e)
 
--- the text of a reply: "for image the status, else the status and four values"; "A line prints bad"
+-- the text of a reply: for an image "a status and two values", by request No. 4, else "the status and four values"; "A line
+-- prints bad"
 unfoldable pub textOf : Reply → List ℕ
 textOf Reply.Bad = badWord
-textOf (Reply.Image answer) = spaced (take 1 (numbers answer))
+textOf (Reply.Image answer) = spaced (loadingNumbers answer)
 textOf (Reply.Event answer) = spaced (numbers answer)
 
 -- what a line leaves and prints

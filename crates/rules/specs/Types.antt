@@ -28,8 +28,11 @@ pub use Rattle.rules.specs.declared.CookieCall.{CookieCall}
 pub use Rattle.rules.specs.declared.Function.{Function}
 pub use Rattle.rules.specs.declared.Owner.{Owner}
 pub use Rattle.rules.specs.declared.Refusal.{Refusal}
-pub use Rattle.rules.specs.declared.Refusal.the-variants.{ENOCPU, ENORADDR, EBADPGSZ, EBADTSB, EINVAL, EBADTRAP, EBADALIGN, EWOULDBLOCK, ENOTSUPPORTED, BadTables, ShortMemory, NoCaller, NoSource, ImageShort, ImageBad}
+pub use Rattle.rules.specs.declared.Refusal.the-variants.{ENOCPU, ENORADDR, EBADPGSZ, EBADTSB, EINVAL, EBADTRAP, EBADALIGN, EWOULDBLOCK, ENOTSUPPORTED, BadTables, ShortMemory, NoCaller, NoSource}
 pub use Rattle.rules.specs.declared.Answer.{Answer}
 pub use Rattle.rules.specs.declared.Answer.the-variants.{Done, One, Two, Refused}
+pub use Rattle.rules.specs.declared.ImageRefusal.{ImageRefusal}
+pub use Rattle.rules.specs.declared.ImageRefusal.the-variants.{ImageShort, HeaderOrCount, ExtentNumbers, ExtentOrder, PagesShared, SourceTwice, FillOrBehind}
+pub use Rattle.rules.specs.declared.Loading.{Loading}
 pub use Rattle.rules.specs.declared.Loaded.{Loaded}
 pub use Rattle.rules.specs.declared.Reply.{Reply}

@@ -227,7 +227,7 @@ pub enum Owner {
     Guest(u64),
 }
 
-// Every refusal, by the papers' name where they have one.
+// Every refusal of an event, by the papers' name where they have one.
 pub enum Refusal {
     ENOCPU,
     ENORADDR,
@@ -242,8 +242,6 @@ pub enum Refusal {
     ShortMemory,
     NoCaller,
     NoSource,
-    ImageShort,
-    ImageBad,
 }
 
 // Done with no value, with value 1, or with values 1 and 2; or refused.
@@ -254,15 +252,33 @@ pub enum Answer {
     Refused(Refusal),
 }
 
+// Every refusal of an image: that bits are missing, or where the first fault is. That is the guest, and of an extent or a source
+// its position there; behind the last guest it is the number of guests.
+pub enum ImageRefusal {
+    ImageShort,
+    HeaderOrCount(u8),
+    ExtentNumbers(u8, u8),
+    ExtentOrder(u8, u8),
+    PagesShared(u8, u8),
+    SourceTwice(u8, u8),
+    FillOrBehind(u8),
+}
+
+// The answer of loading.
+pub enum Loading {
+    Accepted,
+    Refused(ImageRefusal),
+}
+
 // What loading an image gives.
 pub struct Loaded {
-    pub answer: Answer,
+    pub answer: Loading,
     pub tables: Tables,
 }
 
 // What is told of a line of the session: that it is bad, the answer of its image, or the answer to its event.
 pub enum Reply {
     Bad,
-    Image(Answer),
+    Image(Loading),
     Event(Answer),
 }

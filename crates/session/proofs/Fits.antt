@@ -8,22 +8,23 @@ use lib.Dec.{eqb, ltb}
 use lib.ListN.{length, take, length-append}
 use lib.Seq.{length-take-le, length-sets}
 use Rattle.rules.specs.declared.Answer.{Answer}
+use Rattle.rules.specs.declared.Loading.{Loading}
 use Rattle.rules.specs.Image.{load}
 use Rattle.rules.specs.Host.{hostEvent}
 use Rattle.rules.specs.Rulings.{if_then_else_}
-use Rattle.rules.specs.Statuses.{numbers}
+use Rattle.rules.specs.Statuses.{numbers, loadingNumbers}
 use Rattle.rules.specs.Text.{Line, bad, image, event, parse, lineFeed, spaced}
 use Rattle.rules.specs.Session.{Session, replied, textOf, answered}
-use Rattle.text.specs.Printed.{statusText, answerText}
-use Rattle.text.proofs.PrintLaws.{answer-most, status-most}
+use Rattle.text.specs.Printed.{loadingText, answerText}
+use Rattle.text.proofs.PrintLaws.{answer-most, loading-most}
 use Rattle.session.specs.declared.feeder.Fed.{Fed}
 use Rattle.session.specs.declared.feeder.Feeder.{Feeder}
 use Rattle.session.specs.Feeding.{Progress, pushed, ended, next, fed, room, taken-up, feedOf, Feeds, lineLimit}
 
 -- an answer has at most 84 bytes, and its line feed
-status-few : (a : Answer) → length (spaced (take 1 (numbers a))) ≤ 84
-unfolding statusText
-status-few a = omega (arith, rw length-append at (status-most a))
+loading-few : (a : Loading) → length (spaced (loadingNumbers a)) ≤ 84
+unfolding loadingText
+loading-few a = omega (arith, rw length-append at (loading-most a))
 
 event-few : (a : Answer) → length (spaced (numbers a)) ≤ 84
 unfolding answerText
@@ -32,7 +33,7 @@ event-few a = omega (arith, rw length-append at (answer-most a))
 answer-few : (s : Session) (l : Line) → length (answered s l .text) ≤ 84
 unfolding answered replied textOf
 answer-few s bad = omega arith
-answer-few s (image bytes) = status-few (load bytes .answer)
+answer-few s (image bytes) = loading-few (load bytes .answer)
 answer-few s (event e) = event-few (hostEvent (s .tables) (s .memory) e .answer)
 
 next-few : (p : Progress) (b : ℕ) → length (next p b .text) ≤ length (p .text) + 96

@@ -7,8 +7,8 @@ use lib.ListN.{length, take, drop}
 use lib.Seq.{sets, sets-eq, take-append-seam, length-take-le, length-sets}
 use Rattle.rules.specs.declared.Reply.{Reply}
 use Rattle.rules.specs.Session.{textOf}
-use Rattle.text.specs.Printed.{statusText, answerText}
-use Rattle.text.proofs.PrintLaws.{answer-most, status-most}
+use Rattle.text.specs.Printed.{loadingText, answerText}
+use Rattle.text.proofs.PrintLaws.{answer-most, loading-most}
 use Rattle.session.specs.Replies.{replyText}
 
 -- which reply the code's match told
@@ -17,9 +17,9 @@ pub reply-as : (reply x : Reply) (r : ℕ) (m o : List ℕ) → reply ≡ x → 
 reply-as reply x r m o e w = rw e w
 
 pub reply-most : (reply : Reply) → length (replyText reply) ≤ 85
-unfolding replyText textOf statusText answerText
+unfolding replyText textOf loadingText answerText
 reply-most Reply.Bad = omega arith
-reply-most (Reply.Image a) = omega (arith, status-most a)
+reply-most (Reply.Image a) = omega (arith, loading-most a)
 reply-most (Reply.Event a) = answer-most a
 
 -- the front of a buffer that holds a text

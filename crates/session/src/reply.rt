@@ -15,7 +15,7 @@ fn put_text(reply: Reply, text: &mut [u8; REPLY]) -> usize
 {
     match reply {
         Reply::Bad => text::put_bad(text),
-        Reply::Image(answer) => text::put_status(answer, text),
+        Reply::Image(answer) => text::put_loading(answer, text),
         Reply::Event(answer) => text::put_answer(answer, text),
     }
 }

@@ -127,8 +127,10 @@ fn run_image(bench: Bench, line: &[u8]) -> Bench {
     let loaded = load_front(&bytes, n);
     let answer = loaded.answer;
     let tables = loaded.tables;
-    let numbers = text::numbers_of(answer);
-    say_number(numbers[0], b"\n");
+    let numbers = text::loading_numbers(answer);
+    say_number(numbers[0], b" ");
+    say_number(numbers[1], b" ");
+    say_number(numbers[2], b"\n");
     with_tables(bench, tables)
 }
 

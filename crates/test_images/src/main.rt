@@ -1,25 +1,18 @@
-// Runs the worked image and damaged ones through the loader and prints the status of each; the expected ones are in stdout.
+// Runs the worked image and damaged ones through the loader and prints the status and the two values of each, in decimal; the
+// expected ones are in stdout.
 use image::load;
 use io::print_decimal;
 use libc::STDOUT_FILENO;
-use rules::Answer;
-use rules::Refusal;
-
-fn status(answer: Answer) -> u64 {
-    match answer {
-        Answer::Refused(refusal) => match refusal {
-            Refusal::ImageShort => 110,
-            Refusal::ImageBad => 111,
-            _ => 1,
-        },
-        _ => 0,
-    }
-}
 
 fn show(name: &[u8], s: &[u8]) {
     let loaded = load(s);
     let answer = loaded.answer;
-    print_decimal(STDOUT_FILENO, status(answer));
+    let numbers = text::loading_numbers(answer);
+    print_decimal(STDOUT_FILENO, numbers[0]);
+    io::write_all(STDOUT_FILENO, b" ");
+    print_decimal(STDOUT_FILENO, numbers[1]);
+    io::write_all(STDOUT_FILENO, b" ");
+    print_decimal(STDOUT_FILENO, numbers[2]);
     io::write_all(STDOUT_FILENO, b" ");
     io::write_all(STDOUT_FILENO, name);
     io::write_all(STDOUT_FILENO, b"\n");

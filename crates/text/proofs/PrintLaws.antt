@@ -1,5 +1,5 @@
--- Laws of printing: the five numbers of an answer, a number's digits, and numbers in a row.
-use mathlib.Core.Path.{_≡_, refl, _∙_}
+-- Laws of printing: the numbers of an answer, a number's digits, and numbers in a row.
+use mathlib.Core.Path.{_≡_, refl, ap, _∙_}
 use mathlib.Core.List.{List, [], _∷_, _++_, append-assoc}
 use mathlib.Core.Logic.{⊎-elim}
 use Prim.Native.Nat.{ℕ, zero, suc, _+_, _-_, _*_, _/_, _%_, _^_, _<_, _≤_}
@@ -12,10 +12,13 @@ use borrow.Author.Tests.{lt-ltb, le-ltb}
 use Rattle.rules.specs.declared.Answer.{Answer}
 use Rattle.rules.specs.declared.Answer.the-variants.{Done, One, Two, Refused}
 use Rattle.rules.specs.declared.Refusal.{Refusal}
-use Rattle.rules.specs.Statuses.{statusOf, numbers}
+use Rattle.rules.specs.declared.ImageRefusal.{ImageRefusal}
+use Rattle.rules.specs.declared.ImageRefusal.the-variants.{ImageShort, HeaderOrCount, ExtentNumbers, ExtentOrder, PagesShared, SourceTwice, FillOrBehind}
+use Rattle.rules.specs.declared.Loading.{Loading}
+use Rattle.rules.specs.Statuses.{statusOf, numbers, imageNumbers, loadingNumbers}
 use Rattle.rules.specs.Text.{space, lineFeed, digitByte, hexOf, hex, spaced}
 use Rattle.text.proofs.Stores.{sets-append, lt-or-ge}
-use Rattle.text.specs.Printed.{numbersText, answerText, statusText}
+use Rattle.text.specs.Printed.{numbersText, answerText, loadingText}
 
 -- the five numbers
 module _ (a : Answer) where
@@ -34,6 +37,16 @@ module _ (a : Answer) where
   pub numbers-refused : (why : Refusal) (s : ℕ) → a ≡ Refused why → s ≡ statusOf why → s ∷ 0 ∷ 0 ∷ 0 ∷ 0 ∷ [] ≡ numbers a
   unfolding numbers
   numbers-refused why s e f = rw (e, f)
+
+-- the three numbers
+module _ (a : Loading) where
+  pub loading-accepted : a ≡ Loading.Accepted → 0 ∷ 0 ∷ 0 ∷ [] ≡ loadingNumbers a
+  unfolding loadingNumbers
+  loading-accepted e = rw e
+
+  pub loading-refused : (why : ImageRefusal) (ns : List ℕ) → a ≡ Loading.Refused why → ns ≡ imageNumbers why → ns ≡ loadingNumbers a
+  unfolding loadingNumbers
+  loading-refused why ns e f = rw e f
 
 -- one digit, and one more digit
 one-digit : (k n : ℕ) → n < 16 → hexOf (suc k) n ≡ digitByte n ∷ []
@@ -162,7 +175,7 @@ module _ (ns m : List ℕ) where
 numbers-most : (ns : List ℕ) (j : ℕ) → j < length ns → length (numbersText (suc j) ns) ≤ 17 * suc j
 numbers-most ns j h = let e : length (trailed ns (suc j)) ≡ length (numbersText (suc j) ns) = fed ns [] j h .0 in omega (arith, trailed-most ns (suc j))
 
--- a line of five numbers, and of one
+-- a line of five numbers, and of three
 answer-line : (a : Answer) → numbersText 5 (numbers a) ≡ answerText a
 unfolding numbersText answerText numbers
 answer-line Done = refl
@@ -174,9 +187,32 @@ module _ (a : Answer) (ns m : List ℕ) (e : ns ≡ numbers a) (r : ℕ) (o : Li
   pub answer-printed : (r ≡ length (numbersText 5 ns)) × (o ≡ sets m 0 (numbersText 5 ns)) → (r ≡ length (answerText a)) × (o ≡ sets m 0 (answerText a))
   answer-printed w = rw (← answer-line a, ← e) w
 
-  pub status-printed : (r ≡ length (numbersText 1 ns)) × (o ≡ sets m 0 (numbersText 1 ns)) → (r ≡ length (statusText a)) × (o ≡ sets m 0 (statusText a))
-  unfolding statusText numbersText
-  status-printed w = rw e at w
+-- the first three of five numbers
+abbrev three : List ℕ → List ℕ
+three ns = getD ns 0 0 ∷ getD ns 1 0 ∷ getD ns 2 0 ∷ 0 ∷ 0 ∷ []
+
+image-three : (why : ImageRefusal) → take 3 (three (imageNumbers why)) ≡ imageNumbers why
+unfolding imageNumbers
+image-three ImageShort = refl
+image-three (HeaderOrCount guest) = refl
+image-three (ExtentNumbers guest at) = refl
+image-three (ExtentOrder guest at) = refl
+image-three (PagesShared guest at) = refl
+image-three (SourceTwice guest at) = refl
+image-three (FillOrBehind guests) = refl
+
+loading-three : (a : Loading) → take 3 (three (loadingNumbers a)) ≡ loadingNumbers a
+unfolding loadingNumbers
+loading-three Loading.Accepted = refl
+loading-three (Loading.Refused why) = image-three why
+
+loading-line : (a : Loading) → numbersText 3 (three (loadingNumbers a)) ≡ loadingText a
+unfolding numbersText loadingText
+loading-line a = ap (λ (ns : List ℕ). spaced ns ++ (lineFeed ∷ [])) (loading-three a)
+
+pub loading-printed : (a : Loading) (ns m : List ℕ) → ns ≡ loadingNumbers a → (r : ℕ) (o : List ℕ)
+    → (r ≡ length (numbersText 3 (three ns))) × (o ≡ sets m 0 (numbersText 3 (three ns))) → (r ≡ length (loadingText a)) × (o ≡ sets m 0 (loadingText a))
+loading-printed a ns m e r o w = rw (← loading-line a, ← e) w
 
 five : (a : Answer) → length (numbers a) ≡ 5
 unfolding numbers
@@ -185,10 +221,9 @@ five (One v) = refl
 five (Two v w) = refl
 five (Refused why) = refl
 
--- an answer's line has at most 85 bytes, and an image's at most 17
+-- an answer's line has at most 85 bytes, and an image's at most 51
 pub answer-most : (a : Answer) → length (answerText a) ≤ 85
 answer-most a = rw (← answer-line a) (numbers-most (numbers a) 4 (omega (arith, five a)))
 
-pub status-most : (a : Answer) → length (statusText a) ≤ 17
-unfolding statusText numbersText
-status-most a = numbers-most (numbers a) 0 (omega (arith, five a))
+pub loading-most : (a : Loading) → length (loadingText a) ≤ 51
+loading-most a = rw (← loading-line a) (numbers-most (three (loadingNumbers a)) 2 (omega arith))

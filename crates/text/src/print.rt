@@ -3,10 +3,12 @@ ghost use mathlib.Core.Path.{_≡_};
 ghost use Prim.Native.Nat.{_+_, _<_, _≤_};
 ghost use lib.ListN.{length};
 ghost use lib.Seq.{sets};
-ghost use Rattle.rules.specs.Statuses.{statusOf, numbers};
+ghost use Rattle.rules.specs.Statuses.{statusOf, numbers, imageNumbers, loadingNumbers};
 ghost use Rattle.rules.specs.Text.{digitByte, hex};
-ghost use Rattle.text.specs.Printed.{numbersText, answerText, statusText, badText};
+ghost use Rattle.text.specs.Printed.{numbersText, answerText, loadingText, badText};
 use rules::Answer;
+use rules::ImageRefusal;
+use rules::Loading;
 use rules::Refusal;
 
 fn status_of(why: Refusal) -> u64
@@ -26,8 +28,6 @@ fn status_of(why: Refusal) -> u64
         Refusal::ShortMemory => 102,
         Refusal::NoCaller => 103,
         Refusal::NoSource => 104,
-        Refusal::ImageShort => 110,
-        Refusal::ImageBad => 111,
     }
 }
 
@@ -40,6 +40,31 @@ pub fn numbers_of(answer: Answer) -> [u64; 5]
         Answer::One(v) => [0, v, 0, 0, 0],
         Answer::Two(v, w) => [0, v, w, 0, 0],
         Answer::Refused(why) => [status_of(why), 0, 0, 0, 0],
+    }
+}
+
+// The status of a refused image, and the place that it tells.
+fn image_numbers(why: ImageRefusal) -> [u64; 3]
+    ensures { λ r. ⌜ r ≡ imageNumbers why ⌝ }
+{
+    match why {
+        ImageRefusal::ImageShort => [110, 0, 0],
+        ImageRefusal::HeaderOrCount(guest) => [111, guest as u64, 0],
+        ImageRefusal::ExtentNumbers(guest, at) => [112, guest as u64, at as u64],
+        ImageRefusal::ExtentOrder(guest, at) => [113, guest as u64, at as u64],
+        ImageRefusal::PagesShared(guest, at) => [114, guest as u64, at as u64],
+        ImageRefusal::SourceTwice(guest, at) => [115, guest as u64, at as u64],
+        ImageRefusal::FillOrBehind(guests) => [116, guests as u64, 0],
+    }
+}
+
+// The status and two values that loading answers.
+pub fn loading_numbers(answer: Loading) -> [u64; 3]
+    ensures { λ r. ⌜ r ≡ loadingNumbers answer ⌝ }
+{
+    match answer {
+        Loading::Accepted => [0, 0, 0],
+        Loading::Refused(why) => image_numbers(why),
     }
 }
 
@@ -88,11 +113,12 @@ pub fn put_answer(answer: Answer, out: &mut [u8; 96]) -> usize
     put_numbers(numbers_of(answer), 5, out)
 }
 
-// The answer to an image: the status alone.
-pub fn put_status(answer: Answer, out: &mut [u8; 96]) -> usize
-    ensures { λ r. ⌜ (r ≡ length (statusText answer)) × (now (out .exit) ≡ sets (now (out .entry)) 0 (statusText answer)) ⌝ }
+// The answer to an image: the first three of five numbers.
+pub fn put_loading(answer: Loading, out: &mut [u8; 96]) -> usize
+    ensures { λ r. ⌜ (r ≡ length (loadingText answer)) × (now (out .exit) ≡ sets (now (out .entry)) 0 (loadingText answer)) ⌝ }
 {
-    put_numbers(numbers_of(answer), 1, out)
+    let ns = loading_numbers(answer);
+    put_numbers([ns[0], ns[1], ns[2], 0, 0], 3, out)
 }
 
 // The answer to a line that is none.

@@ -19,14 +19,20 @@ returns c = search load-fields
 enum-told : tie.Need-enum-told
 enum-told c = search needs
 
-accepted-requires : tie.Need-accepted-requires
-accepted-requires c κs = search needs
+judge-requires : tie.Need-judge-requires
+judge-requires c κs = search needs
+
+enum-known-judged : tie.Need-enum-known-judged
+enum-known-judged c = search needs
 
 load-refused-requires-2 : tie.Need-load-refused-requires-2
 load-refused-requires-2 c κs = search needs
 
 returns-2 : tie.Need-returns-2
 returns-2 c = search load-bad
+
+enum-told-2 : tie.Need-enum-told-2
+enum-told-2 c = search needs
 
 returns-3 : tie.Need-returns-3
 returns-3 c = search load-good
@@ -40,7 +46,9 @@ load-spec =
     load-refused-requires
     returns
     enum-told
-    accepted-requires
+    judge-requires
+    enum-known-judged
     load-refused-requires-2
     returns-2
+    enum-told-2
     returns-3)

@@ -1,102 +1,18 @@
--- `partition::pages_shared` meets its contract: none of the pairs passed is joined.
-use mathlib.Core.Bool.{false}
-use mathlib.Core.Path.{_≡_, refl}
-use Prim.Native.Nat.{_-_, _≤_}
-use native.Mathlib.Omega.{arith}
+-- `partition::pages_shared` meets its contract: whether the search finds a place.
+use mathlib.Core.Path.{ap, _∙_}
 use borrow.Author.Needs.{needs}
-use Rattle.rules.specs.Kept.{blankExtent}
-use Rattle.rules.specs.Image.{runAt, share, pagesShared}
-use Rattle.rules.proofs.Scan.{some-start, some-next}
-use Rattle.partition.specs.Collected.{runLimit, runsOf}
-use Rattle.partition.proofs.Pairs.{joinedTo, joined, joined-next, none-joined, two-joined}
+use Rattle.rules.specs.Scan.{isFound}
 use Rattle.partition.proofs.pages_shared.Statement.{statement}
 use Rattle.partition.proofs.pages_shared.Tie as tie
 
-abbrev Inv-loop : tie.InvT-loop
-Inv-loop runs found₀ j i₀ found i = (i ≤ j) × ((found ≡ false) × (joinedTo blankExtent share runs j i ≡ false))
+shares-before-requires : tie.Need-shares-before-requires
+shares-before-requires c κs = search needs
 
-abbrev μ-loop : tie.MeasureT-loop
-μ-loop runs found₀ j i₀ found i = j - i
+is-found-requires : tie.Need-is-found-requires
+is-found-requires c κs = search needs
 
-abbrev Inv-pairs : tie.InvT-pairs
-Inv-pairs runs found₀ j₀ found j = (j ≤ runLimit) × ((found ≡ false) × (joined blankExtent share runs j ≡ false))
-
-abbrev μ-pairs : tie.MeasureT-pairs
-μ-pairs runs found₀ j₀ found j = runLimit - j
-
-runs-requires : tie.Need-runs-requires Inv-loop μ-loop Inv-pairs μ-pairs
-runs-requires c κs = search needs
-
-pairs-holds : tie.Need-pairs-holds Inv-loop μ-loop Inv-pairs μ-pairs
-pairs-holds c = (omega arith, (refl, some-start _))
-
-loop-holds : tie.Need-loop-holds Inv-loop μ-loop Inv-pairs μ-pairs
-loop-holds c = (omega arith, (search needs, some-start _))
-
-mul-share : tie.Need-mul-share Inv-loop μ-loop Inv-pairs μ-pairs
-mul-share c = omega arith
-
-array-copy-out-share : tie.Need-array-copy-out-share Inv-loop μ-loop Inv-pairs μ-pairs
-array-copy-out-share c = omega arith
-
-mul-share-2 : tie.Need-mul-share-2 Inv-loop μ-loop Inv-pairs μ-pairs
-mul-share-2 c = omega arith
-
-array-copy-out-share-2 : tie.Need-array-copy-out-share-2 Inv-loop μ-loop Inv-pairs μ-pairs
-array-copy-out-share-2 c = omega arith
-
-share-requires : tie.Need-share-requires Inv-loop μ-loop Inv-pairs μ-pairs
-share-requires c κs = search needs
-
-add-i : tie.Need-add-i Inv-loop μ-loop Inv-pairs μ-pairs
-add-i c = omega arith
-
-loop-less : tie.Need-loop-less Inv-loop μ-loop Inv-pairs μ-pairs
-loop-less c = omega arith
-
-loop-again : tie.Need-loop-again Inv-loop μ-loop Inv-pairs μ-pairs
-loop-again c = (omega arith, (search needs, search some-next))
-
-add-j : tie.Need-add-j Inv-loop μ-loop Inv-pairs μ-pairs
-add-j c = omega arith
-
-pairs-less : tie.Need-pairs-less Inv-loop μ-loop Inv-pairs μ-pairs
-pairs-less c = omega arith
-
-pairs-again : tie.Need-pairs-again Inv-loop μ-loop Inv-pairs μ-pairs
-pairs-again c = (omega arith, (search needs, joined-next blankExtent share (c .before .before .before .before .runs .result) _ _ (c .before .before .before .pairs .inv .1 .1) (c .before .loop .inv .1 .1) (omega arith) (omega arith)))
-
-returns : tie.Need-returns Inv-loop μ-loop Inv-pairs μ-pairs
-unfolding pagesShared runsOf
-returns c = let s = c .before .before .before in
-    none-joined blankExtent share (runAt (s .args .t)) runLimit _ (c .before .before .runs .ensures) _ _ (c .before .pairs .inv .1 .0) (c .before .pairs .inv .1 .1) (omega arith) (omega arith)
-
-returns-2 : tie.Need-returns-2 Inv-loop μ-loop Inv-pairs μ-pairs
-unfolding pagesShared runsOf
-returns-2 c = let s = c .before .before .before .before .before .before .before .before .before in
-    search (two-joined blankExtent share (runAt (s .args .t)) runLimit)
+returns : tie.Need-returns
+returns c = c .is-found .ensures ∙ ap isFound (c .before .shares-before .ensures)
 
 pub pages-shared-spec : {M : Type 1} → statement M
-pages-shared-spec =
-    tie.close
-    (tie.spec
-    Inv-loop
-    μ-loop
-    Inv-pairs
-    μ-pairs
-    runs-requires
-    pairs-holds
-    loop-holds
-    mul-share
-    array-copy-out-share
-    mul-share-2
-    array-copy-out-share-2
-    share-requires
-    add-i
-    loop-less
-    loop-again
-    add-j
-    pairs-less
-    pairs-again
-    returns
-    returns-2)
+pages-shared-spec = tie.close (tie.spec shares-before-requires is-found-requires returns)

@@ -22,8 +22,8 @@ returns-2 c = search count-low
 returns-3 : tie.Need-returns-3
 returns-3 c = search count-high
 
-cast-t13 : tie.Need-cast-t13
-cast-t13 c = search needs
+cast-t14 : tie.Need-cast-t14
+cast-t14 c = search needs
 
 returns-4 : tie.Need-returns-4
 returns-4 c = search count-is
@@ -38,5 +38,5 @@ read-count-spec =
     returns
     returns-2
     returns-3
-    cast-t13
+    cast-t14
     returns-4)

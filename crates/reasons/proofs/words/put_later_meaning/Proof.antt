@@ -1,7 +1,7 @@
--- `words::put_later_meaning` meets its contract: an arm each.
+-- `words::put_later_meaning` meets its contract: an arm each, and the statuses of loading behind them.
 use Prim.Native.Nat.{ℕ}
 use mathlib.Core.List.{List}
-use Rattle.reasons.specs.Words.{meanings, meaningIn, noMeaning, fed}
+use Rattle.reasons.specs.Words.{meanings, meaningIn, fed}
 use Rattle.rules.specs.Text.{bytesOf}
 use Rattle.reasons.proofs.WordLaws.{none-of}
 use Rattle.reasons.proofs.PutLaws.{put-at}
@@ -49,23 +49,8 @@ slice-aggregate-put-text-6 c = search needs
 put-text-requires-6 : tie.Need-put-text-requires-6
 put-text-requires-6 c κs = search needs
 
-slice-aggregate-put-text-7 : tie.Need-slice-aggregate-put-text-7
-slice-aggregate-put-text-7 c = search needs
-
-put-text-requires-7 : tie.Need-put-text-requires-7
-put-text-requires-7 c κs = search needs
-
-slice-aggregate-put-text-8 : tie.Need-slice-aggregate-put-text-8
-slice-aggregate-put-text-8 c = search needs
-
-put-text-requires-8 : tie.Need-put-text-requires-8
-put-text-requires-8 c κs = search needs
-
-slice-aggregate-put-text-9 : tie.Need-slice-aggregate-put-text-9
-slice-aggregate-put-text-9 c = search needs
-
-put-text-requires-9 : tie.Need-put-text-requires-9
-put-text-requires-9 c κs = search needs
+put-image-meaning-requires : tie.Need-put-image-meaning-requires
+put-image-meaning-requires c κs = search needs
 
 returns : tie.Need-returns
 unfolding meanings meaningIn
@@ -92,16 +77,8 @@ unfolding meanings meaningIn
 returns-6 c = put-at said _ 104 _ _ _ _ (c .before .before .before .match .keys6) (c .put-text6 .ensures)
 
 returns-7 : tie.Need-returns-7
-unfolding meanings meaningIn
-returns-7 c = put-at said _ 110 _ _ _ _ (c .before .before .before .match .keys7) (c .put-text7 .ensures)
-
-returns-8 : tie.Need-returns-8
-unfolding meanings meaningIn
-returns-8 c = put-at said _ 111 _ _ _ _ (c .before .before .before .match .keys8) (c .put-text8 .ensures)
-
-returns-9 : tie.Need-returns-9
-unfolding meanings meaningIn
-returns-9 c = put-at (λ words. fed (bytesOf words)) _ noMeaning _ _ _ _ (none-of 8 (drop 8 meanings) _ (c .before .before .before .match .rest)) (c .put-text9 .ensures)
+unfolding meanings
+returns-7 c = put-at (λ words. fed (bytesOf words)) _ (meaningIn (drop 14 meanings) _) _ _ _ _ (none-of 6 (drop 8 meanings) _ (c .before .before .match .rest)) (c .put-image-meaning .ensures)
 
 pub put-later-meaning-spec : {M : Type 1} → statement M
 put-later-meaning-spec =
@@ -119,18 +96,11 @@ put-later-meaning-spec =
     put-text-requires-5
     slice-aggregate-put-text-6
     put-text-requires-6
-    slice-aggregate-put-text-7
-    put-text-requires-7
-    slice-aggregate-put-text-8
-    put-text-requires-8
-    slice-aggregate-put-text-9
-    put-text-requires-9
+    put-image-meaning-requires
     returns
     returns-2
     returns-3
     returns-4
     returns-5
     returns-6
-    returns-7
-    returns-8
-    returns-9)
+    returns-7)

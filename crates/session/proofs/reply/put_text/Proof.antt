@@ -1,7 +1,7 @@
 -- `session::reply::put_text` meets its contract: a case of the reply each.
 use borrow.Author.Needs.{needs}
 use Rattle.rules.specs.Session.{textOf}
-use Rattle.text.specs.Printed.{statusText, answerText}
+use Rattle.text.specs.Printed.{loadingText, answerText}
 use Rattle.session.specs.Replies.{replyText}
 use Rattle.session.proofs.ReplyLaws.{reply-as}
 use Rattle.session.proofs.reply.put_text.Statement.{statement}
@@ -16,8 +16,8 @@ put-bad-requires c κs = search needs
 enum-known-reply : tie.Need-enum-known-reply
 enum-known-reply c = search needs
 
-put-status-requires : tie.Need-put-status-requires
-put-status-requires c κs = search needs
+put-loading-requires : tie.Need-put-loading-requires
+put-loading-requires c κs = search needs
 
 enum-known-reply-2 : tie.Need-enum-known-reply-2
 enum-known-reply-2 c = search needs
@@ -26,15 +26,15 @@ put-answer-requires : tie.Need-put-answer-requires
 put-answer-requires c κs = search needs
 
 returns : tie.Need-returns
-unfolding replyText textOf statusText answerText
+unfolding replyText textOf loadingText answerText
 returns c = reply-as _ _ _ _ _ (c .before .before .enum-told .given .1) (c .put-bad .ensures)
 
 returns-2 : tie.Need-returns-2
-unfolding replyText textOf statusText answerText
-returns-2 c = reply-as _ _ _ _ _ (c .before .before .before .reply .given .1) (c .put-status .ensures)
+unfolding replyText textOf loadingText answerText
+returns-2 c = reply-as _ _ _ _ _ (c .before .before .before .reply .given .1) (c .put-loading .ensures)
 
 returns-3 : tie.Need-returns-3
-unfolding replyText textOf statusText answerText
+unfolding replyText textOf loadingText answerText
 returns-3 c = reply-as _ _ _ _ _ (c .before .before .before .reply2 .given .1) (c .put-answer .ensures)
 
 pub put-text-spec : {M : Type 1} → statement M
@@ -44,7 +44,7 @@ put-text-spec =
     enum-told
     put-bad-requires
     enum-known-reply
-    put-status-requires
+    put-loading-requires
     enum-known-reply-2
     put-answer-requires
     returns

@@ -43,12 +43,6 @@ enum-told-12 c = search needs
 enum-told-13 : tie.Need-enum-told-13
 enum-told-13 c = search needs
 
-enum-told-14 : tie.Need-enum-told-14
-enum-told-14 c = search needs
-
-enum-told-15 : tie.Need-enum-told-15
-enum-told-15 c = search needs
-
 returns : tie.Need-returns
 unfolding statusOf
 returns c = search needs
@@ -101,14 +95,6 @@ returns-13 : tie.Need-returns-13
 unfolding statusOf
 returns-13 c = search needs
 
-returns-14 : tie.Need-returns-14
-unfolding statusOf
-returns-14 c = search needs
-
-returns-15 : tie.Need-returns-15
-unfolding statusOf
-returns-15 c = search needs
-
 pub status-of-spec : {M : Type 1} → statement M
 status-of-spec =
     tie.close
@@ -126,8 +112,6 @@ status-of-spec =
     enum-told-11
     enum-told-12
     enum-told-13
-    enum-told-14
-    enum-told-15
     returns
     returns-2
     returns-3
@@ -140,6 +124,4 @@ status-of-spec =
     returns-10
     returns-11
     returns-12
-    returns-13
-    returns-14
-    returns-15)
+    returns-13)
