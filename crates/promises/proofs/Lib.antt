@@ -10,6 +10,7 @@ pub mod Door
 pub mod Elsewhere
 pub mod Examples
 pub mod Extents
+pub mod Faults
 pub mod Granting
 pub mod Isolation
 pub mod Kept
@@ -18,8 +19,12 @@ pub mod MondoCalls
 pub mod NotVacuous
 pub mod Passing
 pub mod Pieces
+pub mod PlaceLaws
+pub mod Places
+pub mod PlacesWorked
 pub mod Received
 pub mod Refusals
+pub mod Refusing
 pub mod Resent
 pub mod ResentWorked
 pub mod RingGains

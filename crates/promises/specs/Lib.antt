@@ -1,4 +1,5 @@
 pub mod Promises
 pub mod Words
 pub mod Machine
+pub mod Places
 pub mod Resent

@@ -1,5 +1,6 @@
 -- What is promised, as propositions: read this file first. The theorem that proves each is named in front of it, and stands in
--- proofs/. The words are those of Words.antt, Machine.antt and Resent.antt beside this file, and of the rules; docs/PROMISES.md lists them all.
+-- proofs/. The words are those of Words.antt, Machine.antt, Resent.antt and Places.antt beside this file, and of the rules;
+-- docs/PROMISES.md lists them all.
 use mathlib.Core.Path.{_≡_}
 use mathlib.Core.Bool.{true, false, _&&_}
 use mathlib.Core.List.{List}
@@ -10,6 +11,8 @@ use Rattle.rules.specs.declared.Answer.the-variants.{Done, One, Refused}
 use Rattle.rules.specs.declared.Call.{Call}
 use Rattle.rules.specs.declared.Device.{Device}
 use Rattle.rules.specs.declared.Event.{Event}
+use Rattle.rules.specs.declared.ImageRefusal.{ImageRefusal}
+use Rattle.rules.specs.declared.Loading.{Loading}
 use Rattle.rules.specs.declared.Plant.{Plant}
 use Rattle.rules.specs.declared.QueueRecord.{QueueRecord}
 use Rattle.rules.specs.declared.Refusal.{Refusal}
@@ -22,7 +25,7 @@ use Rattle.rules.specs.Scan.{_is-from_to_}
 use Rattle.rules.specs.Real.{Sight, valid, byteAt}
 use Rattle.rules.specs.Rulings.{refused, granted, _or-refuse_then_, done}
 use Rattle.rules.specs.Mondo.{cpu-mondo-send}
-use Rattle.rules.specs.Image.{readImage, load}
+use Rattle.rules.specs.Image.{filledOut, readImage, load}
 use Rattle.rules.specs.Tables.{keepRules}
 use Rattle.rules.specs.Host.{HostOutcome, longEnough, hostRule, hostEvent}
 use Rattle.rules.specs.Session.{output}
@@ -32,6 +35,7 @@ use Rattle.session.specs.Pieces.{inPieces, joinedUp, Roomy}
 use Rattle.promises.specs.Words.{Passes, belongs, tablesAfter, memoryAfter, ownEvents, ownAnswers, Unchanged, Untouched, InSome, OneRun, SameReal, StatisticsCall, Clears, cleared, Excepted, targetAt, SetsTarget, Received}
 use Rattle.promises.specs.Machine.{Machine, machineOf, guestAfter, answersAlone, machineAfter}
 use Rattle.promises.specs.Resent.{MondoCall, AllMarked, ReadyAgain, GotInAll}
+use Rattle.promises.specs.Places.{Faultless, FieldsGive, Tells}
 
 -- The tables keep the rules.
 
@@ -44,6 +48,19 @@ pub record Kept : Type 0 where
   -- every event, refused or not, leaves tables that keep the rules
   pub event-keeps : (tables : Tables) (memory : List ℕ) (event : Event) → keepRules tables ≡ true
       → keepRules (hostEvent tables memory event .tables) ≡ true
+
+-- Where an image is bad (request No. 4).
+
+-- `places`: "Value 1 is the guest number of the first fault .., value 2 the position of the extent or source in that guest".
+pub record Places : Type 0 where
+  -- of every image that is refused, what the refusal tells is so
+  pub refused-tells : (bytes : List ℕ) (r : ImageRefusal) → load bytes .answer ≡ Loading.Refused r → Tells bytes r
+  -- an image that is accepted gives tables with no fault of the kinds that have a place
+  pub accepted-faultless : (bytes : List ℕ) (tables : Tables) → readImage bytes ≡ granted tables → Faultless tables
+  -- and nothing but a fault refuses an image: where its fields are read, and there is none, and the last byte is filled out and is the
+  -- last, it is accepted
+  pub faultless-accepted : (bytes : List ℕ) → FieldsGive bytes (λ tables end. Faultless tables × (filledOut bytes end ≡ true))
+      → load bytes .answer ≡ Loading.Accepted
 
 -- Demand 2: no event changes a record or a byte of a guest other than its own. Nothing is asked of the tables and the memory.
 
