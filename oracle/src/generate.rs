@@ -56,7 +56,7 @@ type Step = fn(&mut Generator);
 /// What happens on a sound partition, and how often.
 const STEPS: [(u64, Step); 22] = [
     (7, Generator::mondo_step),
-    (6, Generator::resend_step),
+    (7, Generator::resend_step),
     (14, Generator::head_step),
     (6, Generator::configure_step),
     (3, Generator::queue_information_step),
@@ -73,7 +73,7 @@ const STEPS: [(u64, Step); 22] = [
     (3, Generator::unknown_step),
     (2, Generator::any_call_step),
     (8, Generator::refusal_step),
-    (13, Generator::seam_step),
+    (14, Generator::seam_step),
     (1, Generator::upgrade_step),
     (1, Generator::long_ring_step),
     (5, Generator::malformed_step),
@@ -118,7 +118,7 @@ impl Generator {
     /// Often some images that are refused or ask for more memory; then one
     /// that does not, and a long run of events on it.
     fn era(&mut self) {
-        if self.random.one_in(2) {
+        if !self.random.one_in(3) {
             self.bad_images();
         }
         self.sound_image();

@@ -1,7 +1,7 @@
 //! The host: its entry rules and its events.
 
 use crate::calls::Caller;
-use crate::image;
+use crate::image::{self, Fault};
 use crate::tables::{Guest, HostOffset, RealAddress, Tables};
 
 /// The lent memory of a session.
@@ -25,7 +25,12 @@ pub enum Status {
     Caller = 103,
     Source = 104,
     ImageShort = 110,
-    ImageBad = 111,
+    ImageCount = 111,
+    ExtentNumbers = 112,
+    ExtentOrder = 113,
+    HostPagesShared = 114,
+    SourceTwice = 115,
+    ImageEnd = 116,
 }
 
 /// The values of an event that was done, or the status of one that was not.
@@ -81,17 +86,10 @@ impl Host {
     }
 
     /// A refused image leaves tables with no guest. Memory stays either way.
-    pub fn load_image(&mut self, image: &[u8]) -> Status {
-        match image::load(image) {
-            Ok(tables) => {
-                self.tables = tables;
-                Status::EOK
-            }
-            Err(status) => {
-                self.tables = Tables::default();
-                status
-            }
-        }
+    pub fn load_image(&mut self, image: &[u8]) -> Result<(), Fault> {
+        self.tables = Tables::default();
+        self.tables = image::load(image)?;
+        Ok(())
     }
 
     pub fn event(&mut self, event: &Event) -> Outcome {

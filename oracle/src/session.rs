@@ -1,5 +1,6 @@
 //! The session program: lines in, one line out for each.
 
+use crate::image::Fault;
 use crate::model::{Event, Host, Outcome, Status};
 use crate::tables::RealAddress;
 use std::io::{self, BufRead, Read, Write};
@@ -51,11 +52,20 @@ fn read_line(input: &mut impl BufRead, line: &mut Vec<u8>) -> io::Result<bool> {
 /// Appends the answer to one line, with its line feed.
 pub fn answer_line(host: &mut Host, line: &[u8], answer: &mut Vec<u8>) {
     match parse(line) {
-        Some(Line::Image(image)) => write_hex(host.load_image(&image) as u64, answer),
+        Some(Line::Image(image)) => write_loaded(host.load_image(&image), answer),
         Some(Line::Event(event)) => write_outcome(host.event(&event), answer),
         None => answer.extend_from_slice(b"bad"),
     }
     answer.push(b'\n');
+}
+
+/// A status and two values: where the image is bad, and 0 if it is not.
+pub fn write_loaded(loaded: Result<(), Fault>, answer: &mut Vec<u8>) {
+    let (status, values) = match loaded {
+        Ok(()) => (Status::EOK, [0; 2]),
+        Err(Fault { status, place }) => (status, [place.guest, place.position]),
+    };
+    write_numbers(status, values, answer);
 }
 
 /// Refusals return 0 in all four values.
@@ -64,6 +74,10 @@ pub fn write_outcome(outcome: Outcome, answer: &mut Vec<u8>) {
         Ok(values) => (Status::EOK, values),
         Err(status) => (status, [0; 4]),
     };
+    write_numbers(status, values, answer);
+}
+
+fn write_numbers<const COUNT: usize>(status: Status, values: [u64; COUNT], answer: &mut Vec<u8>) {
     write_hex(status as u64, answer);
     for value in values {
         answer.push(b' ');

@@ -5,11 +5,19 @@ use super::{malformed, Generator};
 use crate::session;
 
 impl Generator {
-    /// A refused image leaves no guest, so that the next finds nothing.
+    /// A refused image leaves no guest, so that the next finds nothing, unless a
+    /// sound one comes between them.
     pub(super) fn bad_images(&mut self) {
-        for _ in 0..self.random.below(60) {
+        for _ in 0..15 + self.random.below(30) {
+            let reloaded = !self.last_image.is_empty() && self.random.one_in(8);
+            if reloaded {
+                self.image(&self.last_image.clone());
+            }
             self.damaged_image();
-            self.blind_events(3);
+            if reloaded {
+                self.event("load", &[0, 0]);
+            }
+            self.blind_events(2);
         }
         if self.random.one_in(3) {
             let partition = match self.random.below(2) {
@@ -72,6 +80,9 @@ impl Generator {
     }
 
     fn damaged_image(&mut self) {
+        if !self.random.one_in(3) {
+            return self.faulty_image();
+        }
         let partition = match self.random.below(3) {
             0 => Partition::in_memory(&mut self.random),
             1 => Partition::anywhere(&mut self.random),
@@ -86,6 +97,16 @@ impl Generator {
             1 if self.random.one_in(3) => partition::stub(&mut self.random),
             _ => partition.damaged(&mut self.random),
         };
+        self.image(&image);
+    }
+
+    /// Rather with many extents, so that there are many places for a fault.
+    fn faulty_image(&mut self) {
+        let partition = match self.random.below(4) {
+            0 => Partition::anywhere(&mut self.random),
+            _ => Partition::crowded(&mut self.random),
+        };
+        let image = partition.faulty(&mut self.random);
         self.image(&image);
     }
 

@@ -321,7 +321,7 @@ impl Generator {
         let start = before.end - PAGE * (1 + self.random.below((before.end - before.start) / PAGE));
         let end = behind.start + PAGE * (1 + self.random.below((behind.end - behind.start) / PAGE));
         match area_around(before, behind) {
-            Some((base, size)) if self.random.one_in(2) => self.area_at(who, base, size / 16),
+            Some((base, size)) if !self.random.one_in(4) => self.area_at(who, base, size / 16),
             _ => self.pages_refused(who, start, end - start),
         }
     }

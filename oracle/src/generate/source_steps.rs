@@ -85,7 +85,7 @@ impl Generator {
     }
 
     fn step_by_sysino(&mut self, who: (usize, usize)) {
-        if self.random.one_in(4) {
+        if self.random.one_in(3) {
             let (devhandle, devino) = self.source_name(who.0);
             return self.call(who, 0xa0, &[devhandle, devino]);
         }

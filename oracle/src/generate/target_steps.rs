@@ -5,7 +5,8 @@ use crate::tables::{Group, Guest};
 
 impl Generator {
     /// A raise that finds no way; then what was missing, by which nothing is
-    /// delivered, nor by a new cookie; then a raise that delivers.
+    /// delivered, nor by a new cookie; then a raise that delivers. Sometimes to
+    /// a target that was moved away before, and back.
     pub(super) fn target_step(&mut self) {
         let wanted =
             |guest: &Guest| !guest.sources.is_empty() && guest.major(Group::Interrupts) != 0;
@@ -15,6 +16,11 @@ impl Generator {
         };
         self.enable(who, sysino);
         self.set(who, sysino, 0xac, 0);
+        if self.random.one_in(4) {
+            let away = self.someone_of(who.0);
+            self.set(who, sysino, 0xae, away.1 as u64);
+            self.set(who, sysino, 0xae, 0);
+        }
         let target = (who.0, self.guest(who.0).sources[sysino].target);
         match self.random.below(4) {
             0 => self.enabled_later(who, sysino),

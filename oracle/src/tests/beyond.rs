@@ -4,7 +4,7 @@
 
 use super::draft::Draft;
 use crate::model::{Event, Host};
-use crate::session::{parse, write_outcome, Line};
+use crate::session::{parse, write_loaded, write_outcome, Line};
 use crate::tables::TsbList;
 
 const MEMORY: usize = 256 * 1024;
@@ -119,10 +119,12 @@ impl Bench {
     fn plain(&mut self, line: &str) -> String {
         let tables = format!("{:?}", self.host.tables);
         let memory = self.host.memory.clone();
+        let mut text = Vec::new();
         let event = match parse(line.as_bytes()) {
             Some(Line::Event(event)) => event,
             Some(Line::Image(image)) => {
-                return format!("{:x}", self.host.load_image(&image) as u64)
+                write_loaded(self.host.load_image(&image), &mut text);
+                return String::from_utf8(text).expect("text");
             }
             None => panic!("no line of a session: {line}"),
         };
@@ -136,7 +138,6 @@ impl Bench {
             (false, true) => "memory",
             (false, false) => "nothing",
         };
-        let mut text = Vec::new();
         write_outcome(outcome, &mut text);
         format!("{} {changed}", String::from_utf8(text).expect("text"))
     }

@@ -10,7 +10,7 @@ use std::ops::Range;
 
 /// The statuses of each kind of line, without those of the entry.
 const LISTED: [(&str, &str); 41] = [
-    ("image", "0 6e 6f"),
+    ("image", "0 6e 6f 70 71 72 73 74"),
     ("bad", "bad"),
     ("call other", "7"),
     ("call ff/other", "7"),

@@ -70,7 +70,7 @@ fn kinds_of(text: &[u8]) -> BTreeMap<Kind, u64> {
     for line in text.split(|&byte| byte == b'\n') {
         match parse(line) {
             Some(Line::Image(image)) => {
-                host.load_image(&image);
+                _ = host.load_image(&image);
                 origins.clear();
             }
             Some(Line::Event(event)) => {

@@ -1,4 +1,4 @@
-//! The readings of the session's text and of images.
+//! The readings of the session's text.
 
 use super::{answers, check, check_prepared};
 
@@ -13,17 +13,17 @@ fn ends_of_lines() {
     assert!(answers(b"").is_empty());
     assert_eq!(answers(b"\n"), ["bad"]);
     assert_eq!(answers(b"\n\nload 0 0"), ["bad", "bad", "67 0 0 0 0"]);
-    assert_eq!(answers(b"image\n\nimage\n"), ["6e", "bad", "6e"]);
-    assert_eq!(answers(b"image\r\nimage"), ["bad", "6e"]);
+    assert_eq!(answers(b"image\n\nimage\n"), ["6e 0 0", "bad", "6e 0 0"]);
+    assert_eq!(answers(b"image\r\nimage"), ["bad", "6e 0 0"]);
 }
 
 #[test]
 fn lengths_of_lines() {
     let mut line = b"image".to_vec();
     line.resize(2048, b' ');
-    assert_eq!(one(&line), "6e");
+    assert_eq!(one(&line), "6e 0 0");
     line.push(b'\n');
-    assert_eq!(one(&line), "6e");
+    assert_eq!(one(&line), "6e 0 0");
     line.insert(5, b' ');
     assert_eq!(one(&line), "bad");
     line.pop();
@@ -61,63 +61,6 @@ image 1g -> bad",
     assert_eq!(one(b"image 11\0"), "bad");
     assert_eq!(one(b"image\t11"), "bad");
     assert_eq!(one(b"image\xa011"), "bad");
-}
-
-#[test]
-fn counts_are_tested_as_they_are_read() {
-    check(
-        "image 01 -> 6f
-image 21 -> 6f
-image 10 -> 6f
-image 15 -> 6f
-image 11 -> 6e
-image 1100 -> 6f
-image 1190 -> 6f
-image 1110 -> 6f
-image 1118 -> 6e
-image 111a -> 6e
-image 111e -> 6e
-image 1112 -> 6e
-image 111300 -> 6e
-image 111310 -> 6f
-image 1112 10 -> 6e",
-    );
-}
-
-#[test]
-fn rules_after_the_last_field() {
-    check(
-        "image 11 120 0000000 0001 0000 -> 0
-image 11 120 0000000 0001 0000 00 -> 6f
-image 11 120 0000000 0000 0000 -> 6f
-image 11 120 fffffff 0001 0000 -> 0
-image 11 120 fffffff 0002 0000 -> 6f
-image 11 120 0000000 0001 ffff -> 0
-image 11 120 0000000 0002 ffff -> 6f
-image 11 140 0000000 0001 0000 0000001 0001 0001 0 -> 0
-image 11 140 0000000 0001 0000 0000001 0001 0001 1 -> 6f
-image 11 140 0000000 0001 0000 0000001 0001 0001 8 -> 6f
-image 11 140 0000000 0002 0000 0000001 0001 0002 0 -> 6f
-image 11 140 0000001 0001 0000 0000000 0001 0001 0 -> 6f
-image 11 140 0000000 0002 0000 0000002 0001 0001 0 -> 6f
-image 12 120 0000000 0002 0000 120 0000000 0001 0001 0 -> bad
-image 12 120 0000000 0002 0000 120 0000000 0001 0001 -> 6f
-image 12 120 0000000 0001 0000 120 0000000 0001 0001 -> 0
-image 11 122 0000000 0001 0000 0000100 0a 0000100 0a -> 6f
-image 11 122 0000000 0001 0000 0000100 0a 0000100 0b -> 6f
-image 11 122 0000000 0001 0000 0000100 0a 0000101 0a -> 0
-image 11 122 0000000 0001 0000 0000100 0a 0000100 0c -> 0
-image 12 121 0000000 0001 0000 0000100 0a 121 0000000 0001 0001 0000100 0b -> 6f",
-    );
-}
-
-#[test]
-fn a_count_decides_before_missing_bits_and_other_rules_after() {
-    check(
-        "image 12 120 0000000 0000 0000 -> 6e
-image 12 120 0000000 0000 0000 00 -> 6f
-image 12 120 0000000 0000 0000 12 -> 6e",
-    );
 }
 
 #[test]
