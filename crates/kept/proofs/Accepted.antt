@@ -287,11 +287,11 @@ fields-as-read bytes fields e =
     })
 
 -- tables in which no fault was found
-pub record NoFault (tables : Tables) : Type 0 where
-  pub numbers : firstBreaking rightAt tables ≡ Found.Nothing
-  pub order : firstBreaking follows tables ≡ Found.Nothing
-  pub pages : sharesBefore tables ≡ Found.Nothing
-  pub names : namedBefore tables ≡ Found.Nothing
+record NoFault (tables : Tables) : Type 0 where
+  numbers : firstBreaking rightAt tables ≡ Found.Nothing
+  order : firstBreaking follows tables ≡ Found.Nothing
+  pages : sharesBefore tables ≡ Found.Nothing
+  names : namedBefore tables ≡ Found.Nothing
 
 -- What the later rules tell.
 module _ (bytes : List ℕ) (end : ℕ) (t r : Tables) (e : judged bytes end t ≡ granted r) where
@@ -340,7 +340,7 @@ as-read-keeps t a n = rw (places, n .pages, n .names)
         (λ g h l. ap guestBlank (a .absent g h l) ∙ guest-blank)
 
 -- what an accepted image tells
-pub accepted-read : (bytes : List ℕ) (tables : Tables) → readImage bytes ≡ granted tables → AsRead tables × NoFault tables
+accepted-read : (bytes : List ℕ) (tables : Tables) → readImage bytes ≡ granted tables → AsRead tables × NoFault tables
 unfolding readImage
 accepted-read bytes tables e =
     let a = grants-tells (readFields bytes) _ tables e in

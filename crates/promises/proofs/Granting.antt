@@ -16,32 +16,28 @@ use Rattle.rules.specs.Calls.{functionOf, admitted, perform, call}
 use Rattle.records.proofs.Told.{told-right}
 use Rattle.kept.proofs.Accepted.{granted-same}
 use Rattle.calls.proofs.DispatchLaws.{admitted-itself}
+use Rattle.promises.proofs.Ruled.{Ruled, Any, any-refused, ruled-then, ruled-scan, ruled-if, ruled-value, ruled-granted}
 
 -- P holds of what the ruling grants, if it does
 abbrev pub Granting : {R A : Type 0} → (A → Type 0) → RulingBy R A → Type 0
-Granting P (refused r) = Unit {0}
-Granting P (granted a) = P a
+Granting P x = Ruled Any P x
 
 module _ {R A : Type 0} (P : A → Type 0) where
   pub by-then : (t : Bool) (r : R) (x : RulingBy R A) → Granting P x → Granting P (t or-refuse r then x)
-  by-then true r x h = h
-  by-then false r x h = tt
+  by-then t r x h = ruled-then Any P t r x (λ _. tt) (λ _. h)
 
   pub by-scan : (found : Found) (r : ℕ → R) (x : RulingBy R A) → Granting P x → Granting P (found refuses r then x)
-  by-scan Found.Nothing r x h = h
-  by-scan (Found.At k) r x h = tt
+  by-scan found r x h = ruled-scan Any P found r x (λ _ _. tt) (λ _. h)
 
   pub by-if : (t : Bool) (x y : RulingBy R A) → Granting P x → Granting P y → Granting P (if t then x else y)
-  by-if true x y h k = h
-  by-if false x y h k = k
+  by-if t x y = ruled-if Any P t x y
 
   pub by-value : {B : Type 0} (m : RulingBy R B) (k : B → RulingBy R A) → ((b : B) → m ≡ granted b → Granting P (k b)) → Granting P (m grants k)
-  by-value (refused r) k h = tt
-  by-value (granted b) k h = h b refl
+  by-value m k h = ruled-value Any P m k (any-refused m) h
 
   -- of the value itself
   pub granted-has : (x : RulingBy R A) (a : A) → Granting P x → x ≡ granted a → P a
-  granted-has x a h e = rw e at h
+  granted-has x a = ruled-granted Any P x a
 
 -- What a plant's event comes to: what its rule grants, or what a refusal leaves.
 pub by-outcome : (P : Outcome → Type 0) (plant : Plant) (x : Ruling Outcome) → ((r : Refusal) → P (outcomeOf plant (refused r))) → Granting P x → P (outcomeOf plant x)

@@ -24,7 +24,7 @@ pub mod Places
 pub mod PlacesWorked
 pub mod Received
 pub mod Refusals
-pub mod Refusing
+pub mod Ruled
 pub mod Resent
 pub mod ResentWorked
 pub mod RingGains

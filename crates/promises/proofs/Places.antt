@@ -21,10 +21,10 @@ use Rattle.rules.specs.Widths.{editionWidth, guestsWidth, headerBits, cpusWidth
 use Rattle.rules.specs.Image.{Reading, _bits-at_of_from_to_else_, readLists, readGuest, Partition, readGuests, behind, readHeader, Fields, readFields, rightAt, follows, at-extent, at-source, firstBreaking, sharesBefore, namedBefore, filledOut, judged, readImage, loadedAs, load}
 use Rattle.image.proofs.GuestLaws.{cpusRead, extentsRead, sourcesRead}
 use Rattle.image.proofs.FieldsLaws.{editionRead, guestsRead}
-use Rattle.kept.proofs.Accepted.{AsRead, fields-as-read, accepted-read}
-use Rattle.promises.specs.Places.{HeaderFault, CountFault, Faultless, FieldsGive, Unread, Tells}
+use Rattle.kept.proofs.Accepted.{AsRead, fields-as-read}
+use Rattle.promises.specs.Places.{HeaderFault, CountFault, Faultless, FieldsGive, Unread, Tells, Right}
 use Rattle.promises.specs.Promises.{Places}
-use Rattle.promises.proofs.Refusing.{Refusing, refusing-then, refusing-scan, refusing-value, refused-has}
+use Rattle.promises.proofs.Ruled.{Ruled, Any, ruled-then, ruled-scan, ruled-value, ruled-refused, ruled-granted}
 use Rattle.promises.proofs.Faults.{numbers-first, numbers-none, order-first, order-none, pages-first, pages-none, names-first, names-none}
 
 -- The fields are refused by 110, and by 111 where C holds of its guest number.
@@ -46,6 +46,10 @@ early-so C D (PagesShared g i) f h = h
 early-so C D (SourceTwice g i) f h = h
 early-so C D (FillOrBehind n) f h = h
 
+-- of what a reading refuses by; there is nothing to show of what it grants
+abbrev Refusing : {A : Type 0} → (ImageRefusal → Type 0) → Reading A → Type 0
+Refusing P x = Ruled P Any x
+
 refused-so : {A : Type 0} (C D : ℕ → Type 0) (x : Reading A) → ((g : ℕ) → x ≡ refused (HeaderOrCount g) → C g → D g) → Refusing (Early C) x → Refusing (Early D) x
 refused-so C D (refused r) f h = early-so C D r (λ g q. f g (ap refused q)) h
 refused-so C D (granted a) f h = tt
@@ -57,22 +61,22 @@ Own n g = g ≡ n
 count-own : (bytes : List ℕ) (n at least most g : ℕ) → Refusing (Early (Own g)) (n bits-at at of bytes from least to most else HeaderOrCount g)
 unfolding _bits-at_of_from_to_else_
 count-own bytes n at least most g =
-    refusing-then (Early (Own g)) (reaches bytes (at + n)) ImageShort _ (λ _. tt)
-    (refusing-then (Early (Own g)) (fieldAt bytes at n is-from least to most) (HeaderOrCount g) (granted (fieldAt bytes at n)) (λ _. refl) tt)
+    ruled-then (Early (Own g)) Any (reaches bytes (at + n)) ImageShort _ (λ _. tt) (λ _.
+    ruled-then (Early (Own g)) Any (fieldAt bytes at n is-from least to most) (HeaderOrCount g) (granted (fieldAt bytes at n)) (λ _. refl) (λ _. tt))
 
 header-own : (bytes : List ℕ) → Refusing (Early (Own 0)) (readHeader bytes)
 unfolding readHeader
 header-own bytes =
-    refusing-value (Early (Own 0)) (editionRead bytes) (λ _. guestsRead bytes) (count-own bytes editionWidth 0 1 1 0) (λ _ _.
+    ruled-value (Early (Own 0)) Any (editionRead bytes) (λ _. guestsRead bytes) (count-own bytes editionWidth 0 1 1 0) (λ _ _.
     count-own bytes guestsWidth editionWidth 1 guestLimit 0)
 
 guest-own : (bytes : List ℕ) (g at : ℕ) → Refusing (Early (Own g)) (readGuest bytes g at)
 unfolding readGuest readLists
 guest-own bytes g at =
-    refusing-value (Early (Own g)) (cpusRead bytes g at) _ (count-own bytes cpusWidth at 1 _ g) (λ cpus _.
-    refusing-value (Early (Own g)) (extentsRead bytes g at) _ (count-own bytes extentsWidth (at + cpusWidth) 1 _ g) (λ extents _.
-    refusing-value (Early (Own g)) (sourcesRead bytes g at) _ (count-own bytes sourcesWidth (at + (cpusWidth + extentsWidth)) 0 _ g) (λ sources _.
-    refusing-then (Early (Own g)) (reaches bytes (at + countsBits + extentBits * extents + sourceBits * sources)) ImageShort _ (λ _. tt) tt)))
+    ruled-value (Early (Own g)) Any (cpusRead bytes g at) _ (count-own bytes cpusWidth at 1 _ g) (λ cpus _.
+    ruled-value (Early (Own g)) Any (extentsRead bytes g at) _ (count-own bytes extentsWidth (at + cpusWidth) 1 _ g) (λ extents _.
+    ruled-value (Early (Own g)) Any (sourcesRead bytes g at) _ (count-own bytes sourcesWidth (at + (cpusWidth + extentsWidth)) 0 _ g) (λ sources _.
+    ruled-then (Early (Own g)) Any (reaches bytes (at + countsBits + extentBits * extents + sourceBits * sources)) ImageShort _ (λ _. tt) (λ _. tt))))
 
 -- of k more guests, some are read, and the next is guest g, which is refused
 record Reached (bytes : List ℕ) (k at i : ℕ) (guest : List Guest) (g : ℕ) : Type 0 where
@@ -87,7 +91,7 @@ guests-reached : (bytes : List ℕ) (k at i : ℕ) (guest : List Guest) → Refu
 unfolding readGuests
 guests-reached bytes zero at i guest = tt
 guests-reached bytes (suc k) at i guest =
-    refusing-value (Early (Reached bytes (suc k) at i guest)) (readGuest bytes i at) _
+    ruled-value (Early (Reached bytes (suc k) at i guest)) Any (readGuest bytes i at) _
     (refused-so (Own i) (Reached bytes (suc k) at i guest) (readGuest bytes i at) (λ g e q. record {
       some = 0;
       fewer = omega arith;
@@ -111,10 +115,10 @@ Counts bytes g = HeaderFault bytes g ⊎ CountFault bytes g
 fields-early : (bytes : List ℕ) → Refusing (Early (Counts bytes)) (readFields bytes)
 unfolding readFields
 fields-early bytes =
-    refusing-value (Early (Counts bytes)) (readHeader bytes) _
+    ruled-value (Early (Counts bytes)) Any (readHeader bytes) _
     (refused-so (Own 0) (Counts bytes) (readHeader bytes) (λ g e q. inl (rw q at e, q)) (header-own bytes))
     (λ guests h.
-    refusing-value (Early (Counts bytes)) (readGuests bytes guests headerBits 0 (replicate guestLimit blankGuest)) _
+    ruled-value (Early (Counts bytes)) Any (readGuests bytes guests headerBits 0 (replicate guestLimit blankGuest)) _
     (refused-so (Reached bytes guests headerBits 0 (replicate guestLimit blankGuest)) (Counts bytes) (readGuests bytes guests headerBits 0 (replicate guestLimit blankGuest)) (λ g _ c.
     let q : c .some ≡ g = omega (arith, c .number) in
     inr (record {
@@ -157,17 +161,18 @@ module _ (bytes : List ℕ) where
     gives : (Holds : Tables → ℕ → Type 0) → Holds t (fields .end) → FieldsGive bytes Holds
     gives Holds h = record { fields = fields; read = e; holds = h }
 
-    judged-tells : Refusing (Tells bytes) (judged bytes (fields .end) t)
+    judged-tells : Ruled (Tells bytes) (Right bytes) (judged bytes (fields .end) t)
     unfolding judged
     judged-tells =
-        refusing-scan (Tells bytes) (firstBreaking rightAt t) (at-extent ExtentNumbers) _ (λ k f. gives _ (numbers-first t a k f)) (λ x.
+        ruled-scan (Tells bytes) (Right bytes) (firstBreaking rightAt t) (at-extent ExtentNumbers) _ (λ k f. gives _ (numbers-first t a k f)) (λ x.
         let numbers = numbers-none t a x in
-        refusing-scan (Tells bytes) (firstBreaking follows t) (at-extent ExtentOrder) _ (λ k f. gives _ (numbers, order-first t a k f)) (λ y.
+        ruled-scan (Tells bytes) (Right bytes) (firstBreaking follows t) (at-extent ExtentOrder) _ (λ k f. gives _ (numbers, order-first t a k f)) (λ y.
         let order = order-none t a y in
-        refusing-scan (Tells bytes) (sharesBefore t) (at-extent PagesShared) _ (λ k f. gives _ (numbers, order, pages-first t a k f)) (λ z.
+        ruled-scan (Tells bytes) (Right bytes) (sharesBefore t) (at-extent PagesShared) _ (λ k f. gives _ (numbers, order, pages-first t a k f)) (λ z.
         let pages = pages-none t a z in
-        refusing-scan (Tells bytes) (namedBefore t) (at-source SourceTwice) _ (λ k f. gives _ (numbers, order, pages, names-first t a k f)) (λ w.
-        refusing-then (Tells bytes) (filledOut bytes (fields .end)) (FillOrBehind (t .guests)) (granted t) (λ u. gives _ ((numbers, order, pages, names-none t a w), u, refl)) tt))))
+        ruled-scan (Tells bytes) (Right bytes) (namedBefore t) (at-source SourceTwice) _ (λ k f. gives _ (numbers, order, pages, names-first t a k f)) (λ w.
+        let faultless : Faultless t = (numbers, order, pages, names-none t a w) in
+        ruled-then (Tells bytes) (Right bytes) (filledOut bytes (fields .end)) (FillOrBehind (t .guests)) (granted t) (λ u. gives _ (faultless, u, refl)) (λ u. gives _ (faultless, u, refl))))))
 
     -- and where there is none, each rule is passed
     passed : Faultless t → filledOut bytes (fields .end) ≡ true → judged bytes (fields .end) t ≡ granted t
@@ -179,34 +184,37 @@ module _ (bytes : List ℕ) where
         let names = none-found (namedBefore t) (λ k f. h .3 _ _ (names-first t a k f .fault)) in
         rw (numbers, order, pages, names, filled)
 
-  image-tells : Refusing (Tells bytes) (readImage bytes)
+  image-tells : Ruled (Tells bytes) (Right bytes) (readImage bytes)
   unfolding readImage
   image-tells = go (readFields bytes) refl (fields-early bytes)
     where
-      go : (x : Reading Fields) → readFields bytes ≡ x → Refusing (Early (Counts bytes)) x → Refusing (Tells bytes) (x grants λ fields. judged bytes (fields .end) (fields .tables))
+      go : (x : Reading Fields) → readFields bytes ≡ x → Refusing (Early (Counts bytes)) x → Ruled (Tells bytes) (Right bytes) (x grants λ fields. judged bytes (fields .end) (fields .tables))
       go (refused r) e h = early-tells r e h
       go (granted fields) e h = judged-tells fields e
 
-  answer-refused : (r : ImageRefusal) → load bytes .answer ≡ Loading.Refused r → readImage bytes ≡ refused r
+  refused-told : (r : ImageRefusal) → load bytes .answer ≡ Loading.Refused r → Tells bytes r
   unfolding load
-  answer-refused r e = go (readImage bytes) e
+  refused-told r e = go (readImage bytes) e image-tells
     where
-      go : (x : Reading Tables) → loadedAs x .answer ≡ Loading.Refused r → x ≡ refused r
-      go (refused s) q = cc
-      go (granted tables) q = cc
+      go : (x : Reading Tables) → loadedAs x .answer ≡ Loading.Refused r → Ruled (Tells bytes) (Right bytes) x → Tells bytes r
+      go (refused s) q h = let z : s ≡ r = cc in rw (← z) h
+      go (granted tables) q h = absurd (let z : _≡_ {A = ℕ} 0 1 = cc in omega arith)
 
-accepted-none : (bytes : List ℕ) (tables : Tables) → readImage bytes ≡ granted tables → Faultless tables
-accepted-none bytes tables e =
-    let r = accepted-read bytes tables e in
-    (numbers-none tables (r .0) (r .1 .numbers), order-none tables (r .0) (r .1 .order), pages-none tables (r .0) (r .1 .pages), names-none tables (r .0) (r .1 .names))
+  accepted-told : load bytes .answer ≡ Loading.Accepted → Right bytes (load bytes .tables)
+  unfolding load
+  accepted-told e = go (readImage bytes) e image-tells
+    where
+      go : (x : Reading Tables) → loadedAs x .answer ≡ Loading.Accepted → Ruled (Tells bytes) (Right bytes) x → Right bytes (loadedAs x .tables)
+      go (refused s) q h = absurd (let z : _≡_ {A = ℕ} 0 1 = cc in omega arith)
+      go (granted tables) q h = h
 
-faultless-loaded : (bytes : List ℕ) → FieldsGive bytes (λ tables end. Faultless tables × (filledOut bytes end ≡ true)) → load bytes .answer ≡ Loading.Accepted
-unfolding load readImage
-faultless-loaded bytes g = rw (g .read, passed bytes (g .fields) (g .read) (g .holds .0) (g .holds .1))
+  right-loaded : (tables : Tables) → Right bytes tables → load bytes ≡ record { answer = Loading.Accepted; tables = tables }
+  unfolding load readImage
+  right-loaded tables g = rw (g .read, passed (g .fields) (g .read) (g .holds .0) (g .holds .1), g .holds .2)
 
 pub places : Places
 places = record {
-  refused-tells = λ bytes r e. refused-has (Tells bytes) (readImage bytes) r (image-tells bytes) (answer-refused bytes r e);
-  accepted-faultless = accepted-none;
-  faultless-accepted = faultless-loaded;
+  refused-tells = refused-told;
+  accepted-right = accepted-told;
+  right-accepted = right-loaded;
 }

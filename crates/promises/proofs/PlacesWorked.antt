@@ -14,7 +14,7 @@ use Rattle.rules.specs.Image.{readFields, load}
 use Rattle.rules.proofs.Computing.{computing}
 use Rattle.rules.proofs.Worked.{run, inPlaces}
 use Rattle.kept.proofs.Accepted.{granted-same}
-use Rattle.promises.specs.Places.{First, PagesClash, SharesPages, Tells}
+use Rattle.promises.specs.Places.{First, PagesClash, SharesPages, Tells, Right}
 use Rattle.promises.proofs.Places.{places}
 
 -- No byte at all; edition 2; and a guest with no cpu, behind one that is read.
@@ -55,6 +55,10 @@ pub each-tells : Tells (image 0x00 0x00 0x00 0x10 0xb1) (ExtentNumbers 1 0)
     × Tells (image 0x50 0x10 0x01 0x20 0xb1) (FillOrBehind 2)
 each-tells =
     (places .refused-tells _ _ (each-refused .0), places .refused-tells _ _ (each-refused .1), places .refused-tells _ _ (each-refused .2), places .refused-tells _ _ (each-refused .3), places .refused-tells _ _ (each-refused .4))
+
+-- And the one that is mended is right.
+pub mended-right : Right (image 0x50 0x10 0x01 0x20 0xb0) (load (image 0x50 0x10 0x01 0x20 0xb0) .tables)
+mended-right = places .accepted-right _ (each-refused .5)
 
 -- Two pairs that share a page: four extents of a page each, on host pages 0, 1, 1 and 0.
 abbrev twoPairs : List ℕ

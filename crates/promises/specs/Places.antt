@@ -1,6 +1,6 @@
 -- What the place that a refused image answers means (request No. 4): for 112 to 115 it is said of pages and names, and of no scan.
 use mathlib.Core.Path.{_≡_}
-use mathlib.Core.Bool.{false}
+use mathlib.Core.Bool.{true, false}
 use mathlib.Core.List.{List}
 use mathlib.Core.Logic.{_⊎_}
 use Prim.Native.Nat.{ℕ, _+_, _≤_, _<_}
@@ -115,6 +115,11 @@ pub record FieldsGive (bytes : List ℕ) (Holds : Tables → ℕ → Type 0) : T
 -- they were not
 abbrev pub Unread : List ℕ → Type 0
 Unread bytes = (fields : Fields) → readFields bytes ≡ granted fields → ⊥
+
+-- an image is right, and these are its tables: the fields are read, there is no fault in what they say, the fill is zero and nothing
+-- stands behind
+abbrev pub Right : List ℕ → Tables → Type 0
+Right bytes tables = FieldsGive bytes (λ t end. Faultless t × (filledOut bytes end ≡ true) × (t ≡ tables))
 
 -- what a refusal of an image tells: 110 that the fields were not all read, and 111 where they were refused; "112 to 116 in that
 -- order after the last field" the place of the first fault of its kind, and that there is none of the kinds before it; 116 that fill

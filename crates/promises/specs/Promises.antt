@@ -25,7 +25,7 @@ use Rattle.rules.specs.Scan.{_is-from_to_}
 use Rattle.rules.specs.Real.{Sight, valid, byteAt}
 use Rattle.rules.specs.Rulings.{refused, granted, _or-refuse_then_, done}
 use Rattle.rules.specs.Mondo.{cpu-mondo-send}
-use Rattle.rules.specs.Image.{filledOut, readImage, load}
+use Rattle.rules.specs.Image.{readImage, load}
 use Rattle.rules.specs.Tables.{keepRules}
 use Rattle.rules.specs.Host.{HostOutcome, longEnough, hostRule, hostEvent}
 use Rattle.rules.specs.Session.{output}
@@ -35,7 +35,7 @@ use Rattle.session.specs.Pieces.{inPieces, joinedUp, Roomy}
 use Rattle.promises.specs.Words.{Passes, belongs, tablesAfter, memoryAfter, ownEvents, ownAnswers, Unchanged, Untouched, InSome, OneRun, SameReal, StatisticsCall, Clears, cleared, Excepted, targetAt, SetsTarget, Received}
 use Rattle.promises.specs.Machine.{Machine, machineOf, guestAfter, answersAlone, machineAfter}
 use Rattle.promises.specs.Resent.{MondoCall, AllMarked, ReadyAgain, GotInAll}
-use Rattle.promises.specs.Places.{Faultless, FieldsGive, Tells}
+use Rattle.promises.specs.Places.{Tells, Right}
 
 -- The tables keep the rules.
 
@@ -55,12 +55,10 @@ pub record Kept : Type 0 where
 pub record Places : Type 0 where
   -- of every image that is refused, what the refusal tells is so
   pub refused-tells : (bytes : List ℕ) (r : ImageRefusal) → load bytes .answer ≡ Loading.Refused r → Tells bytes r
-  -- an image that is accepted gives tables with no fault of the kinds that have a place
-  pub accepted-faultless : (bytes : List ℕ) (tables : Tables) → readImage bytes ≡ granted tables → Faultless tables
-  -- and nothing but a fault refuses an image: where its fields are read, and there is none, and the last byte is filled out and is the
-  -- last, it is accepted
-  pub faultless-accepted : (bytes : List ℕ) → FieldsGive bytes (λ tables end. Faultless tables × (filledOut bytes end ≡ true))
-      → load bytes .answer ≡ Loading.Accepted
+  -- an image that is accepted is right, and its tables are those that are loaded
+  pub accepted-right : (bytes : List ℕ) → load bytes .answer ≡ Loading.Accepted → Right bytes (load bytes .tables)
+  -- and one that is right is accepted: nothing but a fault refuses an image
+  pub right-accepted : (bytes : List ℕ) (tables : Tables) → Right bytes tables → load bytes ≡ record { answer = Loading.Accepted; tables = tables }
 
 -- Demand 2: no event changes a record or a byte of a guest other than its own. Nothing is asked of the tables and the memory.
 
