@@ -1,9 +1,9 @@
 -- Laws of printing: the numbers of an answer, a number's digits, and numbers in a row.
-use mathlib.Core.Path.{_≡_, refl, ap, _∙_}
+use mathlib.Core.Path.{_≡_, refl, ap}
 use mathlib.Core.List.{List, [], _∷_, _++_, append-assoc}
 use mathlib.Core.Logic.{⊎-elim}
 use Prim.Native.Nat.{ℕ, zero, suc, _+_, _-_, _*_, _/_, _%_, _^_, _<_, _≤_}
-use native.Mathlib.Nat.{zero-add, pow-suc}
+use native.Mathlib.Nat.{pow-suc}
 use native.Mathlib.Numerals.{add-one}
 use native.Mathlib.Omega.{arith}
 use lib.ListN.{length, getD, take, set, length-append}
@@ -79,21 +79,21 @@ hex-last : (n : ℕ) → 16 ≤ n → n < 2 ^ 64 → hex n ≡ hex (n / 16) ++ (
 hex-last n h f = rw (more-digits 15 n h, enough 14 (n / 16) (omega arith))
 
 -- what `put_hex` writes over m, and that it has room
-module _ (m : List ℕ) (at n : ℕ) (room : at + length (hex n) ≤ 96) where
+module _ (at n : ℕ) where
   module _ (h : n < 16) where
-    pub hex-place : at < 96
-    hex-place = omega (arith, rw (one-digit 15 n h) at room)
+    pub hex-place : (room : ℕ) → at + length (hex n) ≤ room → at < room
+    hex-place room f = omega (arith, rw (one-digit 15 n h) at f)
 
-    pub hex-few : (d : ℕ) → d ≡ digitByte n → (at + 1 ≡ at + length (hex n)) × (set m at d ≡ sets m at (hex n))
-    hex-few d e = rw (one-digit 15 n h, e) (refl, refl)
+    pub hex-few : (m : List ℕ) (d : ℕ) → d ≡ digitByte n → (at + 1 ≡ at + length (hex n)) × (set m at d ≡ sets m at (hex n))
+    hex-few m d e = rw (one-digit 15 n h, e) (refl, refl)
 
   module _ (h : 16 ≤ n) (f : n < 2 ^ 64) where
-    pub hex-fits : at + length (hex (n / 16)) < 96
-    hex-fits = omega (arith, rw (hex-last n h f, length-append) at room)
+    pub hex-fits : (room : ℕ) → at + length (hex n) ≤ room → at + length (hex (n / 16)) < room
+    hex-fits room g = omega (arith, rw (hex-last n h f, length-append) at g)
 
-    pub hex-more : (r d : ℕ) (o : List ℕ) → (r ≡ at + length (hex (n / 16))) × (o ≡ sets m at (hex (n / 16))) → d ≡ digitByte (n % 16)
+    pub hex-more : (m : List ℕ) (r d : ℕ) (o : List ℕ) → (r ≡ at + length (hex (n / 16))) × (o ≡ sets m at (hex (n / 16))) → d ≡ digitByte (n % 16)
         → (r + 1 ≡ at + length (hex n)) × (set o r d ≡ sets m at (hex n))
-    hex-more r d o w e =
+    hex-more m r d o w e =
         rw (hex-last n h f, length-append)
         (omega arith, rw (w .0, w .1, e) (sets-append (hex (n / 16)) (digitByte (n % 16) ∷ []) m at))
 
@@ -122,58 +122,62 @@ trailed-most ns zero = omega arith
 trailed-most ns (suc i) = simp length-append (omega (arith, trailed-most ns i, hex-most 16 (getD ns i 0)))
 
 -- a line feed over the last space
-feed-over : (x m : List ℕ) → set (sets m 0 (x ++ (space ∷ []))) (length x) lineFeed ≡ sets m 0 (x ++ (lineFeed ∷ []))
-feed-over x m =
-    let put : (v : ℕ) → set (sets m 0 x) (length x) v ≡ sets m 0 (x ++ (v ∷ [])) = λ v. simp zero-add at (sets-append x (v ∷ []) m 0) in
+feed-over : (x m : List ℕ) (from : ℕ) → set (sets m from (x ++ (space ∷ []))) (from + length x) lineFeed ≡ sets m from (x ++ (lineFeed ∷ []))
+feed-over x m from =
+    let put : (v : ℕ) → set (sets m from x) (from + length x) v ≡ sets m from (x ++ (v ∷ [])) = λ v. sets-append x (v ∷ []) m from in
     rw (← put space, ← put lineFeed, set-set)
 
-fed : (ns m : List ℕ) (j : ℕ) → j < length ns
-    → (length (trailed ns (suc j)) ≡ length (numbersText (suc j) ns)) × (set (sets m 0 (trailed ns (suc j))) (length (trailed ns (suc j)) - 1) lineFeed ≡ sets m 0 (numbersText (suc j) ns))
+fed-length : (ns : List ℕ) (j : ℕ) → j < length ns → length (trailed ns (suc j)) ≡ length (numbersText (suc j) ns)
 unfolding numbersText
-fed ns m j h =
+fed-length ns j h = rw (trailed-spaced ns j h, length-append, length-append)
+
+fed : (ns m : List ℕ) (from j : ℕ) → j < length ns
+    → set (sets m from (trailed ns (suc j))) (from + length (trailed ns (suc j)) - 1) lineFeed ≡ sets m from (numbersText (suc j) ns)
+unfolding numbersText
+fed ns m from j h =
     let x : List ℕ = spaced (take (suc j) ns) in
-    let e : length (x ++ (space ∷ [])) - 1 ≡ length x = rw length-append (omega arith) in
-    rw (trailed-spaced ns j h, e) (rw (length-append, length-append), feed-over x m)
+    let e : from + length (x ++ (space ∷ [])) - 1 ≡ from + length x = rw length-append (omega arith) in
+    rw (trailed-spaced ns j h, e) (feed-over x m from)
 
--- what `put_numbers` writes, of numbers ns over m
-module _ (ns m : List ℕ) where
-  pub trailed-start : (0 ≡ length (trailed ns 0)) × (m ≡ sets m 0 (trailed ns 0))
+-- what `put_numbers` writes, of numbers ns over m from a place on
+module _ (ns m : List ℕ) (from : ℕ) where
+  pub trailed-start : (from ≡ from + length (trailed ns 0)) × (m ≡ sets m from (trailed ns 0))
   unfolding trailed
-  trailed-start = (refl, refl)
+  trailed-start = (omega arith, refl)
 
-  module _ (i at : ℕ) (o : List ℕ) (a : at ≡ length (trailed ns i)) (b : o ≡ sets m 0 (trailed ns i)) where
-    pub trailed-room : i < 5 → at + length (hex (getD ns i 0)) < 96
+  module _ (i at : ℕ) (o : List ℕ) (a : at ≡ from + length (trailed ns i)) (b : o ≡ sets m from (trailed ns i)) where
+    pub trailed-room : i < 5 → at + length (hex (getD ns i 0)) < from + 96
     trailed-room h = omega (arith, trailed-most ns i, hex-most 16 (getD ns i 0))
 
     pub trailed-next : (r : ℕ) (p : List ℕ) → (r ≡ at + length (hex (getD ns i 0))) × (p ≡ sets o at (hex (getD ns i 0)))
-        → (r + 1 ≡ length (trailed ns (i + 1))) × (set p r space ≡ sets m 0 (trailed ns (i + 1)))
+        → (r + 1 ≡ from + length (trailed ns (i + 1))) × (set p r space ≡ sets m from (trailed ns (i + 1)))
     unfolding trailed
     trailed-next r p w =
         let t : List ℕ = trailed ns i in
         let h : List ℕ = hex (getD ns i 0) in
-        let e : p ≡ sets m 0 (t ++ h) = rw (w .1, a, b) (simp zero-add at (sets-append t h m 0)) in
-        let l : r ≡ length (t ++ h) = w .0 ∙ rw (a, length-append) in
-        rw (add-one i, length-append) (omega arith, rw (e, l) (simp zero-add at (sets-append (t ++ h) (space ∷ []) m 0)))
+        let e : p ≡ sets m from (t ++ h) = rw (w .1, a, b) (sets-append t h m from) in
+        let l : r ≡ from + length (t ++ h) = rw length-append (omega arith) in
+        rw (add-one i, length-append) (omega arith, rw (e, l) (sets-append (t ++ h) (space ∷ []) m from))
 
     module _ (count : ℕ) (u : i ≤ count) (v : count ≤ i) (f : 1 ≤ count) where
-      pub trailed-some : (1 ≤ at) × (at ≤ 17 * i)
+      pub trailed-some : (from < at) × (at ≤ from + 17 * i)
       unfolding trailed
       trailed-some = (go i refl a, omega (arith, trailed-most ns i))
         where
-          go : (k : ℕ) → k ≡ i → at ≡ length (trailed ns k) → 1 ≤ at
+          go : (k : ℕ) → k ≡ i → at ≡ from + length (trailed ns k) → from < at
           go zero q e = absurd (omega arith)
           go (suc j) q e = omega (arith, simp length-append at e)
 
-      pub trailed-end : count ≤ length ns → (at ≡ length (numbersText count ns)) × (set o (at - 1) lineFeed ≡ sets m 0 (numbersText count ns))
+      pub trailed-end : count ≤ length ns → (at ≡ from + length (numbersText count ns)) × (set o (at - 1) lineFeed ≡ sets m from (numbersText count ns))
       trailed-end l = go count f (omega arith) l
         where
-          go : (k : ℕ) → 1 ≤ k → i ≡ k → k ≤ length ns → (at ≡ length (numbersText k ns)) × (set o (at - 1) lineFeed ≡ sets m 0 (numbersText k ns))
+          go : (k : ℕ) → 1 ≤ k → i ≡ k → k ≤ length ns → (at ≡ from + length (numbersText k ns)) × (set o (at - 1) lineFeed ≡ sets m from (numbersText k ns))
           go zero g q n = absurd (omega arith)
-          go (suc j) g q n = rw (b, a, q) (fed ns m j n)
+          go (suc j) g q n = rw (b, a, q) (rw (fed-length ns j n), fed ns m from j n)
 
 -- as many bytes as its digits, and one more for each number
 numbers-most : (ns : List ℕ) (j : ℕ) → j < length ns → length (numbersText (suc j) ns) ≤ 17 * suc j
-numbers-most ns j h = let e : length (trailed ns (suc j)) ≡ length (numbersText (suc j) ns) = fed ns [] j h .0 in omega (arith, trailed-most ns (suc j))
+numbers-most ns j h = rw (← fed-length ns j h) (trailed-most ns (suc j))
 
 -- a line of five numbers, and of three
 answer-line : (a : Answer) → numbersText 5 (numbers a) ≡ answerText a
@@ -183,8 +187,8 @@ answer-line (One v) = refl
 answer-line (Two v w) = refl
 answer-line (Refused why) = refl
 
-module _ (a : Answer) (ns m : List ℕ) (e : ns ≡ numbers a) (r : ℕ) (o : List ℕ) where
-  pub answer-printed : (r ≡ length (numbersText 5 ns)) × (o ≡ sets m 0 (numbersText 5 ns)) → (r ≡ length (answerText a)) × (o ≡ sets m 0 (answerText a))
+module _ (a : Answer) (ns m : List ℕ) (e : ns ≡ numbers a) (at r : ℕ) (o : List ℕ) where
+  pub answer-printed : (r ≡ at + length (numbersText 5 ns)) × (o ≡ sets m at (numbersText 5 ns)) → (r ≡ at + length (answerText a)) × (o ≡ sets m at (answerText a))
   answer-printed w = rw (← answer-line a, ← e) w
 
 -- the first three of five numbers
@@ -210,9 +214,9 @@ loading-line : (a : Loading) → numbersText 3 (three (loadingNumbers a)) ≡ lo
 unfolding numbersText loadingText
 loading-line a = ap (λ (ns : List ℕ). spaced ns ++ (lineFeed ∷ [])) (loading-three a)
 
-pub loading-printed : (a : Loading) (ns m : List ℕ) → ns ≡ loadingNumbers a → (r : ℕ) (o : List ℕ)
-    → (r ≡ length (numbersText 3 (three ns))) × (o ≡ sets m 0 (numbersText 3 (three ns))) → (r ≡ length (loadingText a)) × (o ≡ sets m 0 (loadingText a))
-loading-printed a ns m e r o w = rw (← loading-line a, ← e) w
+pub loading-printed : (a : Loading) (ns m : List ℕ) → ns ≡ loadingNumbers a → (at r : ℕ) (o : List ℕ)
+    → (r ≡ at + length (numbersText 3 (three ns))) × (o ≡ sets m at (numbersText 3 (three ns))) → (r ≡ at + length (loadingText a)) × (o ≡ sets m at (loadingText a))
+loading-printed a ns m e at r o w = rw (← loading-line a, ← e) w
 
 five : (a : Answer) → length (numbers a) ≡ 5
 unfolding numbers

@@ -76,8 +76,8 @@ fn digit_byte(d: u8) -> u8
 }
 
 // Writes n from the place at on, its leading digits first, and gives the place behind it.
-fn put_hex(n: u64, at: usize, out: &mut [u8; 96]) -> usize
-    requires { ⌜ at + length (hex n) ≤ 96 ⌝ }
+fn put_hex(n: u64, at: usize, out: &mut [u8]) -> usize
+    requires { ⌜ at + length (hex n) ≤ length (now out) ⌝ }
     ensures { λ r. ⌜ (r ≡ at + length (hex n)) × (now (out .exit) ≡ sets (now (out .entry)) at (hex n)) ⌝ }
 {
     if n < 16 {
@@ -90,11 +90,11 @@ fn put_hex(n: u64, at: usize, out: &mut [u8; 96]) -> usize
 }
 
 // The first count numbers and a line feed. Each number is written with a space behind it, and the line feed over the last space.
-fn put_numbers(ns: [u64; 5], count: usize, out: &mut [u8; 96]) -> usize
-    requires { ⌜ (1 ≤ count) × (count ≤ 5) ⌝ }
-    ensures { λ r. ⌜ (r ≡ length (numbersText count ns)) × (now (out .exit) ≡ sets (now (out .entry)) 0 (numbersText count ns)) ⌝ }
+fn put_numbers(ns: [u64; 5], count: usize, from: usize, out: &mut [u8]) -> usize
+    requires { ⌜ (1 ≤ count) × (count ≤ 5) × (from + 96 ≤ length (now out)) ⌝ }
+    ensures { λ r. ⌜ (r ≡ from + length (numbersText count ns)) × (now (out .exit) ≡ sets (now (out .entry)) from (numbersText count ns)) ⌝ }
 {
-    let mut at = 0;
+    let mut at = from;
     let mut i = 0;
     while i < count {
         at = put_hex(ns[i], at, out);
@@ -106,28 +106,31 @@ fn put_numbers(ns: [u64; 5], count: usize, out: &mut [u8; 96]) -> usize
     at
 }
 
-// The answer to an event. Each put gives the number of bytes it wrote.
-pub fn put_answer(answer: Answer, out: &mut [u8; 96]) -> usize
-    ensures { λ r. ⌜ (r ≡ length (answerText answer)) × (now (out .exit) ≡ sets (now (out .entry)) 0 (answerText answer)) ⌝ }
+// The answer to an event. Each put gives the place behind what it wrote.
+pub fn put_answer(answer: Answer, at: usize, out: &mut [u8]) -> usize
+    requires { ⌜ at + 96 ≤ length (now out) ⌝ }
+    ensures { λ r. ⌜ (r ≡ at + length (answerText answer)) × (now (out .exit) ≡ sets (now (out .entry)) at (answerText answer)) ⌝ }
 {
-    put_numbers(numbers_of(answer), 5, out)
+    put_numbers(numbers_of(answer), 5, at, out)
 }
 
 // The answer to an image: the first three of five numbers.
-pub fn put_loading(answer: Loading, out: &mut [u8; 96]) -> usize
-    ensures { λ r. ⌜ (r ≡ length (loadingText answer)) × (now (out .exit) ≡ sets (now (out .entry)) 0 (loadingText answer)) ⌝ }
+pub fn put_loading(answer: Loading, at: usize, out: &mut [u8]) -> usize
+    requires { ⌜ at + 96 ≤ length (now out) ⌝ }
+    ensures { λ r. ⌜ (r ≡ at + length (loadingText answer)) × (now (out .exit) ≡ sets (now (out .entry)) at (loadingText answer)) ⌝ }
 {
     let ns = loading_numbers(answer);
-    put_numbers([ns[0], ns[1], ns[2], 0, 0], 3, out)
+    put_numbers([ns[0], ns[1], ns[2], 0, 0], 3, at, out)
 }
 
 // The answer to a line that is none.
-pub fn put_bad(out: &mut [u8; 96]) -> usize
-    ensures { λ r. ⌜ (r ≡ length badText) × (now (out .exit) ≡ sets (now (out .entry)) 0 badText) ⌝ }
+pub fn put_bad(at: usize, out: &mut [u8]) -> usize
+    requires { ⌜ at + 96 ≤ length (now out) ⌝ }
+    ensures { λ r. ⌜ (r ≡ at + length badText) × (now (out .exit) ≡ sets (now (out .entry)) at badText) ⌝ }
 {
-    out[0] = b'b';
-    out[1] = b'a';
-    out[2] = b'd';
-    out[3] = b'\n';
-    4
+    out[at] = b'b';
+    out[at + 1] = b'a';
+    out[at + 2] = b'd';
+    out[at + 3] = b'\n';
+    at + 4
 }

@@ -1,40 +1,64 @@
--- `session::reply::put_reply` meets its contract: the text goes by way of a buffer that holds any reply.
-use native.Mathlib.Omega.{arith}
+-- `session::reply::put_reply` meets its contract: a case of the reply each.
 use borrow.Author.Needs.{needs}
-use mathlib.Core.Path.{refl}
-use Rattle.session.proofs.ReplyLaws.{text-fits, text-long, text-taken, put-whole}
+use Rattle.rules.specs.Session.{textOf}
+use Rattle.text.specs.Printed.{loadingText, answerText}
+use Rattle.session.specs.Replies.{replyText}
+use Rattle.session.proofs.ReplyLaws.{reply-as}
 use Rattle.session.proofs.reply.put_reply.Statement.{statement}
 use Rattle.session.proofs.reply.put_reply.Tie as tie
 
-put-text-requires : tie.Need-put-text-requires
-put-text-requires c κs = search needs
+enum-told : tie.Need-enum-told
+enum-told c = search needs
 
-array-share-prefix-text : tie.Need-array-share-prefix-text
-array-share-prefix-text c = omega (arith, text-fits _ _ _ _ refl (c .before .put-text .ensures), text-long _ _ _ _ refl (c .before .put-text .ensures))
+put-bad-requires : tie.Need-put-bad-requires
+put-bad-requires c κs = search needs
 
-slice-aggregate-write : tie.Need-slice-aggregate-write
-slice-aggregate-write c = text-taken _ _ _ _ refl (c .before .before .put-text .ensures)
+enum-known-reply : tie.Need-enum-known-reply
+enum-known-reply c = search needs
 
-write-requires : tie.Need-write-requires
-write-requires c κs = omega (arith, text-taken _ _ _ _ refl (c .before .before .put-text .ensures), text-fits _ _ _ _ refl (c .before .before .put-text .ensures))
+put-loading-requires : tie.Need-put-loading-requires
+put-loading-requires c κs = search needs
 
-add-result : tie.Need-add-result
-add-result c = omega (arith, text-fits _ _ _ _ refl (c .before .before .before .before .before .put-text .ensures))
+enum-known-reply-2 : tie.Need-enum-known-reply-2
+enum-known-reply-2 c = search needs
+
+put-answer-requires : tie.Need-put-answer-requires
+put-answer-requires c κs = search needs
 
 same-length : tie.Need-same-length
 same-length c = search needs
 
 returns : tie.Need-returns
-returns c = put-whole _ _ _ _ refl (c .before .before .before .before .before .put-text .ensures) _ _ _ (c .before .before .write .ensures)
+unfolding replyText textOf loadingText answerText
+returns c = reply-as _ _ _ _ _ _ (c .before .before .before .before .enum-told .given .1) (c .before .before .put-bad .ensures)
+
+same-length-2 : tie.Need-same-length-2
+same-length-2 c = search needs
+
+returns-2 : tie.Need-returns-2
+unfolding replyText textOf loadingText answerText
+returns-2 c = reply-as _ _ _ _ _ _ (c .before .before .before .before .before .reply .given .1) (c .before .before .put-loading .ensures)
+
+same-length-3 : tie.Need-same-length-3
+same-length-3 c = search needs
+
+returns-3 : tie.Need-returns-3
+unfolding replyText textOf loadingText answerText
+returns-3 c = reply-as _ _ _ _ _ _ (c .before .before .before .before .before .reply2 .given .1) (c .before .before .put-answer .ensures)
 
 pub put-reply-spec : {M : Type 1} → statement M
 put-reply-spec =
     tie.close
     (tie.spec
-    put-text-requires
-    array-share-prefix-text
-    slice-aggregate-write
-    write-requires
-    add-result
+    enum-told
+    put-bad-requires
+    enum-known-reply
+    put-loading-requires
+    enum-known-reply-2
+    put-answer-requires
     same-length
-    returns)
+    returns
+    same-length-2
+    returns-2
+    same-length-3
+    returns-3)

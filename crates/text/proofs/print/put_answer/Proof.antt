@@ -10,8 +10,11 @@ numbers-of-requires c κs = search needs
 put-numbers-requires : tie.Need-put-numbers-requires
 put-numbers-requires c κs = search needs
 
+same-length : tie.Need-same-length
+same-length c = search needs
+
 returns : tie.Need-returns
-returns c = answer-printed _ _ _ (c .before .before .numbers-of .ensures) _ _ (c .put-numbers .ensures)
+returns c = answer-printed _ _ _ (c .before .before .before .before .numbers-of .ensures) _ _ _ (c .before .before .put-numbers .ensures)
 
 pub put-answer-spec : {M : Type 1} → statement M
-put-answer-spec = tie.close (tie.spec numbers-of-requires put-numbers-requires returns)
+put-answer-spec = tie.close (tie.spec numbers-of-requires put-numbers-requires same-length returns)
