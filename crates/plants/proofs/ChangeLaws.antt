@@ -1,6 +1,5 @@
 -- What each change makes of a plant's record, where the place is there.
-use mathlib.Core.Path.{_≡_, refl}
-use mathlib.Core.Bool.{true, false, true≢false}
+use mathlib.Core.Path.{_≡_}
 use mathlib.Core.List.{List}
 use Prim.Native.Nat.{ℕ, _<_}
 use borrow.Author.Tests.{lt-ltb}
@@ -13,8 +12,7 @@ use Rattle.rules.specs.Limits.{cpuLimit, queueLimit, sourceLimit}
 use Rattle.rules.specs.Kept.{withQueue, withStatistics, withSource, withCtx0, withCtxnon0}
 use Rattle.plants.specs.declared.change.Change.{Change}
 use Rattle.plants.specs.declared.change.CpuChange.{CpuChange}
-use Rattle.plants.specs.declared.change.Done.{Done}
-use Rattle.plants.specs.Changes.{changing, changedBy, cpuAfter, plantAfter}
+use Rattle.plants.specs.Changes.{changedBy, cpuAfter}
 
 module _ (plant : Plant) (tsbs : Tsbs) (tails : List ℕ) where
   pub source-after : (i : ℕ) (s : Source) → i < sourceLimit → changedBy plant tsbs tails (Change.Source i s) ≡ withSource plant i s
@@ -42,17 +40,3 @@ module _ (plant : Plant) (tsbs : Tsbs) (tails : List ℕ) where
     pub delivered-after : (i : ℕ) (s : Source) (held : QueueRecord) → i < sourceLimit → changedBy plant tsbs tails (Change.Delivered i s c held) ≡ withSource (withQueue plant c 1 held) i s
     unfolding changedBy
     delivered-after i s held k = rw (lt-ltb _ _ h, lt-ltb _ _ k)
-
--- what is no change leaves the record as it was
-pub same-after : (plant : Plant) (d : Done) → changing (d .change) ≡ false → plantAfter plant d ≡ plant
-unfolding plantAfter changing changedBy
-same-after plant d e = go (d .change) e
-  where
-    go : (x : Change) → changing x ≡ false → changedBy plant (d .tsbs) (d .tails) x ≡ plant
-    go Change.Nothing e = refl
-    go (Change.Versions v) e = absurd (true≢false e)
-    go (Change.Disabled v) e = absurd (true≢false e)
-    go (Change.Cpu c part) e = absurd (true≢false e)
-    go (Change.Source i s) e = absurd (true≢false e)
-    go (Change.Delivered i s c held) e = absurd (true≢false e)
-    go Change.Tails e = absurd (true≢false e)

@@ -14,15 +14,16 @@ module _ {A : Type 0} where
   unfolding mapFirst
   map-none f l = refl
 
-  step : (f : ℕ → A → A) (d : A) (i : ℕ) (l : List A) → i < length l → set (mapFirst f i l) i (f i (getD (mapFirst f i l) i d)) ≡ mapFirst f (suc i) l
+  step : (f : ℕ → A → A) (d : A) (i : ℕ) (l : List A) → set (mapFirst f i l) i (f i (getD (mapFirst f i l) i d)) ≡ mapFirst f (suc i) l
   unfolding mapFirst
-  step f d i [] h = absurd (omega arith)
-  step f d zero (x ∷ l) h = refl
-  step f d (suc i) (x ∷ l) h = ap (λ (t : List A). f 0 x ∷ t) (step (λ j. f (suc j)) d i l (omega arith))
+  step f d zero [] = refl
+  step f d (suc i) [] = refl
+  step f d zero (x ∷ l) = refl
+  step f d (suc i) (x ∷ l) = ap (λ (t : List A). f 0 x ∷ t) (step (λ j. f (suc j)) d i l)
 
   -- l is the list before the loop, and s the one after i turns
-  pub map-next : (f : ℕ → A → A) (l s : List A) (i : ℕ) (d : A) → s ≡ mapFirst f i l → i < length l → set s i (f i (getD s i d)) ≡ mapFirst f (i + 1) l
-  map-next f l s i d e h = rw (e, add-one) (step f d i l h)
+  pub map-next : (f : ℕ → A → A) (l s : List A) (i : ℕ) (d : A) → s ≡ mapFirst f i l → set s i (f i (getD s i d)) ≡ mapFirst f (i + 1) l
+  map-next f l s i d e = rw (e, add-one) (step f d i l)
 
   pub map-all : (f : A → A) (n : ℕ) (l : List A) → length l ≤ n → mapFirst (λ _. f) n l ≡ map f l
   unfolding mapFirst

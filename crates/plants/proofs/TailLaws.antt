@@ -1,8 +1,8 @@
 -- The loop that moves the tails of several rings: after i turns those of the first i cpus are moved.
 use mathlib.Core.Path.{_≡_, refl, ap, _∙_}
 use mathlib.Core.List.{List}
-use Prim.Native.Nat.{ℕ, _+_, _<_}
-use lib.ListN.{length, getD}
+use Prim.Native.Nat.{ℕ, _+_}
+use lib.ListN.{getD}
 use Rattle.rules.specs.declared.Cpu.{Cpu}
 use Rattle.rules.specs.declared.Plant.{Plant}
 use Rattle.rules.specs.declared.QueueRecord.{QueueRecord}
@@ -22,11 +22,11 @@ module _ (plant : Plant) (tails : List ℕ) where
   unfolding mapFirst
   tails-none = refl
 
-  pub tails-next : (next : Plant) (i : ℕ) (new : Cpu) → next ≡ tailed i → i < length (plant .cpu) → new ≡ cpuAtTail (cpuAt next i) (getD tails i 0) → withCpu next i new ≡ tailed (i + 1)
-  tails-next next i new e h n =
+  pub tails-next : (next : Plant) (i : ℕ) (new : Cpu) → next ≡ tailed i → new ≡ cpuAtTail (cpuAt next i) (getD tails i 0) → withCpu next i new ≡ tailed (i + 1)
+  tails-next next i new e n =
       ap (withCpu next i) n
       ∙ ap (λ (p : Plant). withCpu p i (cpuAtTail (cpuAt p i) (getD tails i 0))) e
-      ∙ (λ j. record { versions = plant .versions; cpus = plant .cpus; cpu = map-next tailAt (plant .cpu) (mapFirst tailAt i (plant .cpu)) i hollowCpu refl h j; sources = plant .sources; source = plant .source })
+      ∙ (λ j. record { versions = plant .versions; cpus = plant .cpus; cpu = map-next tailAt (plant .cpu) (mapFirst tailAt i (plant .cpu)) i hollowCpu refl j; sources = plant .sources; source = plant .source })
 
   pub tails-all : (next : Plant) (i : ℕ) → next ≡ tailed i → i ≡ plant .cpus → next ≡ withTails plant tails
   unfolding withTails

@@ -1,5 +1,5 @@
 -- What an event changes of its plant's record, and the record after.
-use mathlib.Core.Bool.{Bool, true, false, _&&_}
+use mathlib.Core.Bool.{_&&_}
 use mathlib.Core.List.{List, [], _∷_}
 use Prim.Native.Nat.{ℕ, zero, suc}
 use lib.Dec.{ltb}
@@ -22,15 +22,6 @@ use Rattle.plants.specs.declared.change.Done.{Done}
 -- an answer, and a change that no list and no tails belong to
 unfoldable pub doneBy : Answer → Change → Done
 doneBy answer change = record { answer = answer; change = change; tsbs = blankTsbs; tails = replicate cpuLimit 0 }
-
-unfoldable pub changing : Change → Bool
-changing Change.Nothing = false
-changing (Change.Versions v) = true
-changing (Change.Disabled v) = true
-changing (Change.Cpu c part) = true
-changing (Change.Source i source) = true
-changing (Change.Delivered i source c held) = true
-changing Change.Tails = true
 
 -- a ring with its tail there
 unfoldable pub atTail : QueueRecord → ℕ → QueueRecord

@@ -16,7 +16,7 @@ use rules::Versions;
 ghost use mathlib.Core.Path.{_≡_};
 ghost use Prim.Native.Nat.{_≤_};
 ghost use Rattle.rules.specs.Limits.{cpuLimit};
-ghost use Rattle.plants.specs.Changes.{doneBy, changing, cpuAfter, plantAfter};
+ghost use Rattle.plants.specs.Changes.{doneBy, cpuAfter, plantAfter};
 
 // A queue's record, a TSB list, which stands beside it in Done, or the statistics address.
 pub enum CpuChange {
@@ -65,23 +65,8 @@ pub fn told(answer: Answer) -> Done
     done_by(answer, Change::Nothing)
 }
 
-// Whether the record after is another.
-pub fn is_change(change: Change) -> bool
-    ensures { λ r. ⌜ r ≡ changing change ⌝ }
-{
-    match change {
-        Change::Nothing => false,
-        Change::Versions(_) => true,
-        Change::Disabled(_) => true,
-        Change::Cpu(_, _) => true,
-        Change::Source(_, _) => true,
-        Change::Delivered(_, _, _, _) => true,
-        Change::Tails => true,
-    }
-}
-
 // A cpu's record after. A queue that is not there is not changed.
-fn cpu_after(cpu: Cpu, change: CpuChange, tsbs: Tsbs) -> Cpu
+pub fn cpu_after(cpu: Cpu, change: CpuChange, tsbs: Tsbs) -> Cpu
     ensures { λ r. ⌜ r ≡ cpuAfter cpu tsbs change ⌝ }
 {
     let mut next = cpu;

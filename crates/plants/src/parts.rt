@@ -16,7 +16,7 @@ ghost use Rattle.rules.specs.Versions.{disabled};
 ghost use Rattle.plants.specs.Changes.{atTail, cpuAtTail, withTails};
 
 // Every source disabled.
-pub(crate) fn all_disabled(source: [Source; SOURCES]) -> [Source; SOURCES]
+pub fn all_disabled(source: [Source; SOURCES]) -> [Source; SOURCES]
     ensures { λ r. ⌜ r ≡ map disabled source ⌝ }
 {
     let mut next = source;
@@ -50,7 +50,7 @@ pub fn at_tail(held: QueueRecord, tail: u16) -> QueueRecord
 }
 
 // A cpu with the tail of its 0x3c ring there.
-fn cpu_at_tail(cpu: Cpu, tail: u16) -> Cpu
+pub fn cpu_at_tail(cpu: Cpu, tail: u16) -> Cpu
     ensures { λ r. ⌜ r ≡ cpuAtTail cpu tail ⌝ }
 {
     let queue = cpu.queue[0];

@@ -24,14 +24,13 @@ use Rattle.rules.specs.Session.{Session, afterEvent, replied, textOf, printedAs
 use Rattle.records.specs.declared.Verdict.{Verdict}
 use Rattle.records.specs.Sound.{Sound}
 use Rattle.plants.specs.declared.change.Done.{Done}
-use Rattle.plants.specs.Changes.{changing, plantAfter}
+use Rattle.plants.specs.Changes.{plantAfter}
 use Rattle.plants.specs.Follows.{Follows}
 use Rattle.host.specs.declared.door.Seat.{Seat}
 use Rattle.host.specs.Seats.{doorOf, seatOf}
-use Rattle.plants.proofs.ChangeLaws.{same-after}
 use Rattle.host.proofs.DoorLaws.{door-tells, seat-told, seat-sound, seat-refuses, seat-follows}
 use Rattle.kept.proofs.Tables.{event-keeps}
-use Rattle.kept.proofs.Steady.{long-same, event-steady}
+use Rattle.kept.proofs.Steady.{Steady, long-same, event-steady}
 use Rattle.text.specs.Lines.{imageOf}
 use Rattle.session.specs.declared.ask.Asked.{Asked}
 use Rattle.session.specs.Asking.{asked, askedOf}
@@ -43,54 +42,42 @@ module _ (tables : Tables) (memory line : List ℕ) where
   abbrev door : Verdict
   door = doorOf tables (length memory)
 
-  -- no line
-  pub answers-bad : (v : Verdict) → Asked.Bad ≡ asked tables v (parse line) → answered session (parse line) ≡ record { session = session; text = textOf Reply.Bad }
-  unfolding asked askedOf answered replied textOf
-  answers-bad v = go (parse line)
-    where
-      none : (e : Event) (s : Seat) → seatOf tables v e ≡ s → Asked.Bad ≡ askedOf tables v e → ⊥
-      none e (Seat.Refused r) q p = let z : _≡_ {A = ℕ} 0 1 = cc (p, q) in absurd (omega arith)
-      none e (Seat.Guest g) q p = let z : _≡_ {A = ℕ} 0 1 = cc (p, q) in absurd (omega arith)
-
-      go : (l : Line) → Asked.Bad ≡ asked tables v l → answered session l ≡ record { session = session; text = textOf Reply.Bad }
-      go bad p = refl
-      go (image bytes) p = let z : _≡_ {A = ℕ} 0 1 = cc in absurd (omega arith)
-      go (event e) p = absurd (none e (seatOf tables v e) refl p)
-
   -- an image
-  answers-image : (v : Verdict) → Asked.Image ≡ asked tables v (parse line)
+  answers-image : Asked.Image ≡ asked tables door (parse line)
       → answered session (parse line) ≡ record { session = record { tables = load (imageOf (parse line)) .tables; memory = memory }; text = textOf (Reply.Image (load (imageOf (parse line)) .answer)) }
   unfolding asked askedOf answered replied textOf imageOf
-  answers-image v = go (parse line)
+  answers-image = go (parse line)
     where
-      none : (e : Event) (s : Seat) → seatOf tables v e ≡ s → Asked.Image ≡ askedOf tables v e → ⊥
+      none : (e : Event) (s : Seat) → seatOf tables door e ≡ s → Asked.Image ≡ askedOf tables door e → ⊥
       none e (Seat.Refused r) q p = let z : _≡_ {A = ℕ} 0 1 = cc (p, q) in absurd (omega arith)
       none e (Seat.Guest g) q p = let z : _≡_ {A = ℕ} 0 1 = cc (p, q) in absurd (omega arith)
 
-      go : (l : Line) → Asked.Image ≡ asked tables v l
+      go : (l : Line) → Asked.Image ≡ asked tables door l
           → answered session l ≡ record { session = record { tables = load (imageOf l) .tables; memory = memory }; text = textOf (Reply.Image (load (imageOf l) .answer)) }
       go bad p = let z : _≡_ {A = ℕ} 0 1 = cc in absurd (omega arith)
       go (image bytes) p = refl
-      go (event e) p = absurd (none e (seatOf tables v e) refl p)
+      go (event e) p = absurd (none e (seatOf tables door e) refl p)
 
-  pub answers-loaded : (v : Verdict) (r : Loaded) → Asked.Image ≡ asked tables v (parse line) → r ≡ load (imageOf (parse line))
+  pub answers-loaded : (r : Loaded) → Asked.Image ≡ asked tables door (parse line) → r ≡ load (imageOf (parse line))
       → answered session (parse line) ≡ record { session = record { tables = r .tables; memory = memory }; text = textOf (Reply.Image (r .answer)) }
-  answers-loaded v r p e = rw e (answers-image v p)
+  answers-loaded r p e = rw e (answers-image p)
 
-  -- an event that no guest answers
-  pub answers-refused : (r : Refusal) → Asked.Refused r ≡ asked tables door (parse line)
-      → answered session (parse line) ≡ record { session = session; text = textOf (Reply.Event (Answer.Refused r)) }
+  -- no line, or an event that no guest answers
+  pub answers-said : (reply : Reply) → Asked.Said reply ≡ asked tables door (parse line) → answered session (parse line) ≡ record { session = session; text = textOf reply }
   unfolding asked askedOf answered replied textOf
-  answers-refused r = go (parse line)
+  answers-said reply = go (parse line)
     where
-      of : (e : Event) (s : Seat) → seatOf tables door e ≡ s → Asked.Refused r ≡ askedOf tables door e → seatOf tables door e ≡ Seat.Refused r
-      of e (Seat.Refused x) q p = let w : x ≡ r = cc (p, q) in q ∙ ap Seat.Refused w
+      of : (e : Event) (s : Seat) → seatOf tables door e ≡ s → Asked.Said reply ≡ askedOf tables door e
+          → printedAs (afterEvent (hostEvent tables memory e)) ≡ record { session = session; text = textOf reply }
+      of e (Seat.Refused r) q p =
+          let w : Reply.Event (Answer.Refused r) ≡ reply = cc (p, q) in
+          ap (λ (o : HostOutcome). printedAs (afterEvent o)) (seat-refuses tables memory e r q) ∙ ap (λ (y : Reply). record { session = session; text = textOf y }) w
       of e (Seat.Guest g) q p = let z : _≡_ {A = ℕ} 0 1 = cc (p, q) in absurd (omega arith)
 
-      go : (l : Line) → Asked.Refused r ≡ asked tables door l → answered session l ≡ record { session = session; text = textOf (Reply.Event (Answer.Refused r)) }
-      go bad p = let z : _≡_ {A = ℕ} 0 1 = cc in absurd (omega arith)
+      go : (l : Line) → Asked.Said reply ≡ asked tables door l → answered session l ≡ record { session = session; text = textOf reply }
+      go bad p = let w : Reply.Bad ≡ reply = cc in ap (λ (y : Reply). record { session = session; text = textOf y }) w
       go (image bytes) p = let z : _≡_ {A = ℕ} 0 1 = cc in absurd (omega arith)
-      go (event e) p = ap (λ (o : HostOutcome). printedAs (afterEvent o)) (seat-refuses tables memory e r (of e (seatOf tables door e) refl p))
+      go (event e) p = of e (seatOf tables door e) refl p
 
   -- an event of a guest that is there
   pub guest-seated : (g : ℕ) (e : Event) → Asked.Guest g e ≡ asked tables door (parse line) → (parse line ≡ event e) × (seatOf tables door e ≡ Seat.Guest g)
@@ -117,15 +104,6 @@ module _ (tables : Tables) (memory line : List ℕ) where
       abbrev put : Tables
       put = withPlant tables g (plantAfter (plantAt tables g) d)
 
-      -- a change is put back, and what is no change leaves the tables as they were
-      pub next-changed : (plant : Plant) → plant ≡ plantAfter (plantAt tables g) d → withPlant tables g plant ≡ put
-      next-changed plant n = ap (withPlant tables g) n
-
-      pub next-same : changing (d .change) ≡ false → tables ≡ put
-      next-same n =
-          (λ i. record { guests = tables .guests; guest = sym (set-getD (tables .guest) g hollowGuest) i })
-          ∙ ap (withPlant tables g) (sym (same-after (plantAt tables g) d n))
-
       module _ (next : Tables) (n : next ≡ put) where
         outcome : hostEvent tables memory e ≡ record { answer = d .answer; tables = next; memory = after }
         outcome = seat-follows tables memory e g d after (guest-seated g e p .1) f ∙ (λ i. record { answer = d .answer; tables = sym n i; memory = after })
@@ -140,6 +118,9 @@ module _ (tables : Tables) (memory line : List ℕ) where
         pub memory-same : length after ≡ length memory
         memory-same = ap (λ (o : HostOutcome). length (o .memory)) (sym outcome) ∙ event-steady tables memory e (right .0) (right .1) .1
 
+        pub event-stays : Steady tables next
+        event-stays = rw outcome at (event-steady tables memory e (right .0) (right .1) .0)
+
         -- it leaves the door as it was
         pub door-same : doorOf next (length after) ≡ door
         unfolding doorOf
@@ -147,8 +128,3 @@ module _ (tables : Tables) (memory line : List ℕ) where
             let kept : keepRules next ≡ true = ap (λ (o : HostOutcome). keepRules (o .tables)) (sym outcome) ∙ event-keeps tables memory e (right .0) in
             let same = ap (λ (o : HostOutcome). longEnough (o .tables) (length memory)) (sym outcome) ∙ long-same _ _ (event-steady tables memory e (right .0) (right .1) .0) (length memory) in
             rw (kept, memory-same, same, right .0, right .1)
-
--- The same, as the code holds it: v is the door, x what was asked, and the code's match told what x is.
-module _ (tables : Tables) (memory line : List ℕ) (v : Verdict) (q : v ≡ doorOf tables (length memory)) (x : Asked) (p : x ≡ asked tables v (parse line)) where
-  pub asked-as : (y : Asked) → x ≡ y → y ≡ asked tables (doorOf tables (length memory)) (parse line)
-  asked-as y e = sym e ∙ p ∙ ap (λ (u : Verdict). asked tables u (parse line)) q

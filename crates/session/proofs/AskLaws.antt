@@ -5,9 +5,11 @@ use Prim.Native.Nat.{ℕ, _≤_}
 use native.Mathlib.Omega.{arith}
 use lib.ListN.{length, take}
 use lib.Seq.{sets, length-sets, length-take-le}
+use Rattle.rules.specs.declared.Answer.{Answer}
 use Rattle.rules.specs.declared.Event.{Event}
 use Rattle.rules.specs.declared.Refusal.{Refusal}
 use Rattle.rules.specs.declared.Loaded.{Loaded}
+use Rattle.rules.specs.declared.Reply.{Reply}
 use Rattle.rules.specs.declared.Tables.{Tables}
 use Rattle.rules.specs.Image.{load}
 use Rattle.rules.specs.Text.{Line, bad, image, event, parse}
@@ -23,7 +25,7 @@ use Rattle.session.proofs.ReplyLaws.{front}
 
 module _ (tables : Tables) (door : Verdict) where
   module _ (e : Event) (s : Seat) (p : s ≡ seatOf tables door e) where
-    pub seat-refused : (r : Refusal) → s ≡ Seat.Refused r → Asked.Refused r ≡ askedOf tables door e
+    pub seat-refused : (r : Refusal) → s ≡ Seat.Refused r → Asked.Said (Reply.Event (Answer.Refused r)) ≡ askedOf tables door e
     unfolding askedOf
     seat-refused r q = rw (← p, q)
 
@@ -32,11 +34,11 @@ module _ (tables : Tables) (door : Verdict) where
     seat-guest g q = rw (← p, q)
 
   module _ (line : List ℕ) (t : Told) (p : t ≡ told (parse line)) where
-    pub line-bad : t ≡ Told.Bad → Asked.Bad ≡ asked tables door (parse line)
+    pub line-bad : t ≡ Told.Bad → Asked.Said Reply.Bad ≡ asked tables door (parse line)
     unfolding asked told
     line-bad q = go (parse line) (sym p ∙ q)
       where
-        go : (l : Line) → told l ≡ Told.Bad → Asked.Bad ≡ asked tables door l
+        go : (l : Line) → told l ≡ Told.Bad → Asked.Said Reply.Bad ≡ asked tables door l
         go bad e = refl
         go (image bytes) e = cc
         go (event x) e = cc

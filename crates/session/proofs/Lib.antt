@@ -4,4 +4,6 @@ pub mod FeedLaws
 pub mod Fits
 pub mod InParts
 pub mod ReplyLaws
+mod Seated
+mod Serving
 pub mod Whole

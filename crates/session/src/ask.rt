@@ -9,17 +9,17 @@ ghost use Rattle.text.specs.Lines.{imageOf};
 ghost use Rattle.session.specs.Asking.{asked, askedOf};
 use host::Seat;
 use records::Verdict;
+use rules::Answer;
 use rules::Event;
 use rules::Loaded;
-use rules::Refusal;
+use rules::Reply;
 use rules::Tables;
 use text::Line;
 
-// Nothing, as it is no line; an image; an event that is refused at the door; an event of a guest that is there.
+// Nothing but the reply, as it is no line or an event that is refused at the door; an image; an event of a guest that is there.
 pub enum Asked {
-    Bad,
+    Said(Reply),
     Image,
-    Refused(Refusal),
     Guest(usize, Event),
 }
 
@@ -28,7 +28,7 @@ fn ask_event(tables: Tables, door: Verdict, event: Event) -> Asked
     ensures { λ r. ⌜ r ≡ askedOf tables door event ⌝ }
 {
     match host::seat_of(tables, door, event) {
-        Seat::Refused(r) => Asked::Refused(r),
+        Seat::Refused(r) => Asked::Said(Reply::Event(Answer::Refused(r))),
         Seat::Guest(g) => Asked::Guest(g, event),
     }
 }
@@ -38,7 +38,7 @@ pub(crate) fn ask(tables: Tables, door: Verdict, line: &[u8]) -> Asked
     ensures { λ r. ⌜ r ≡ asked tables door (parse (now (line .entry))) ⌝ }
 {
     match text::parse_line(line) {
-        Line::Bad => Asked::Bad,
+        Line::Bad => Asked::Said(Reply::Bad),
         Line::Image => Asked::Image,
         Line::Event(event) => ask_event(tables, door, event),
     }

@@ -36,7 +36,7 @@ loop-less : tie.Need-loop-less Inv-loop μ-loop
 loop-less c = omega arith
 
 loop-again : tie.Need-loop-again Inv-loop μ-loop
-loop-again c = let l = c .before .before .loop in (omega arith, map-next (λ _. disabled) _ _ _ _ (l .inv .1) (omega arith))
+loop-again c = let l = c .before .before .loop in (omega arith, map-next (λ _. disabled) _ _ _ _ (l .inv .1))
 
 returns : tie.Need-returns Inv-loop μ-loop
 returns c = let l = c .before .loop in disabled-all _ _ _ (l .inv .1) (omega arith)

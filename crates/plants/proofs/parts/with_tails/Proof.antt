@@ -2,7 +2,6 @@
 use mathlib.Core.Path.{_≡_}
 use Prim.Native.Nat.{_≤_, _-_}
 use native.Mathlib.Omega.{arith}
-use lib.ListN.{length-map}
 use borrow.Author.Needs.{needs}
 use Rattle.plants.proofs.TailLaws.{tailed, tails-none, tails-next, tails-all}
 use Rattle.plants.proofs.parts.with_tails.Statement.{statement}
@@ -51,7 +50,7 @@ loop-again : tie.Need-loop-again Inv-loop μ-loop
 loop-again c =
     let l = c .before .before .before in
     let s = l .before .before in
-    (omega arith, tails-next (s .args .plant) (s .args .t2) (l .loop .next) (l .loop .i) _ (l .loop .inv .1) (omega (arith, simp length-map at (s .good .0 .1 .1 .1 .1 .0 .1 .0 .1))) (c .cpu-at-tail .ensures))
+    (omega arith, tails-next (s .args .plant) (s .args .t2) (l .loop .next) (l .loop .i) _ (l .loop .inv .1) (c .cpu-at-tail .ensures))
 
 returns : tie.Need-returns Inv-loop μ-loop
 returns c = let l = c .before .loop in tails-all _ _ _ _ (l .inv .1) (omega arith)
