@@ -6,20 +6,21 @@ use native.Mathlib.Omega.{arith}
 use borrow.Author.Tests.{lt-ltb, le-ltb}
 use Rattle.rules.specs.declared.Answer.the-variants.{Refused}
 use Rattle.rules.specs.declared.Call.{Call}
+use Rattle.rules.specs.declared.Cpu.{Cpu}
 use Rattle.rules.specs.declared.Device.{Device}
 use Rattle.rules.specs.declared.Event.{Event}
 use Rattle.rules.specs.declared.Extents.{Extents}
-use Rattle.rules.specs.declared.Found.{Found}
 use Rattle.rules.specs.declared.HeadWrite.{HeadWrite}
 use Rattle.rules.specs.declared.Plant.{Plant}
 use Rattle.rules.specs.declared.QueueRecord.{QueueRecord}
 use Rattle.rules.specs.declared.Refusal.the-variants.{NoCaller, NoSource}
+use Rattle.rules.specs.declared.Source.{Source}
 use Rattle.rules.specs.Kept.{cpuAt, queueAt}
 use Rattle.rules.specs.Real.{Sight}
 use Rattle.rules.specs.Rulings.{outcomeOf}
 use Rattle.rules.specs.Calls.{call}
 use Rattle.rules.specs.Queues.{write-head}
-use Rattle.rules.specs.Sources.{sysinoOf, raise, raiseAt}
+use Rattle.rules.specs.Sources.{raise, raiseAt}
 use Rattle.rules.specs.Host.{plantRule}
 use Rattle.records.specs.Sound.{RecordSound, Sound}
 use Rattle.plants.specs.declared.change.Change.{Change}
@@ -28,15 +29,18 @@ use Rattle.plants.specs.Changes.{doneBy}
 use Rattle.plants.specs.Done.{quietly}
 use Rattle.plants.specs.Follows.{Follows}
 use Rattle.queues.specs.Rings.{PlacesSound}
+use Rattle.sources.specs.declared.Named.{Named}
+use Rattle.sources.specs.Seen.{namedIn}
 use Rattle.plants.proofs.OutcomeLaws.{quiet, quiet-told}
+use Rattle.sources.proofs.SourceLaws.{named-nothing, named-at}
 
 -- a ring that is sound holds its head and its tail
 places-sound : (v : ℕ → ℕ → _) (held : QueueRecord) → RecordSound v held → PlacesSound held
 places-sound v QueueRecord.Unset s = tt
 places-sound v (QueueRecord.Set ring) s = record { head = s .head-below; tail = s .tail-below }
 
-pub head-places : (extents : Extents) (plant : Plant) (n cpu queue : ℕ) → Sound extents plant n → cpu < plant .cpus → queue ≤ 0x3f → PlacesSound (queueAt (cpuAt plant cpu) (queue - 0x3c))
-head-places extents plant n cpu queue s h l = places-sound _ (queueAt (cpuAt plant cpu) (queue - 0x3c)) (s .rings cpu (queue - 0x3c) h (omega arith))
+pub head-places : (extents : Extents) (plant : Plant) (n : ℕ) (own : Cpu) (cpu queue : ℕ) → Sound extents plant n → cpu < plant .cpus → own ≡ cpuAt plant cpu → queue ≤ 0x3f → PlacesSound (queueAt own (queue - 0x3c))
+head-places extents plant n own cpu queue s h p l = rw p (places-sound _ (queueAt (cpuAt plant cpu) (queue - 0x3c)) (s .rings cpu (queue - 0x3c) h (omega arith)))
 
 module _ (extents : Extents) (plant : Plant) (s : Sight) (m : List ℕ) (d : Done) where
   module _ (c : Call) where
@@ -57,14 +61,14 @@ module _ (extents : Extents) (plant : Plant) (s : Sight) (m : List ℕ) (d : Don
     unfolding plantRule
     head-cpu h g = quiet extents plant (plantRule s plant (Event.Head w)) m d (g ∙ rw (lt-ltb (w .cpu) (plant .cpus) h))
 
-  module _ (v : Device) (f : Found) (p : f ≡ sysinoOf plant (v .devhandle) (v .devino)) where
-    pub raise-nothing : f ≡ Found.Nothing → d ≡ doneBy (Refused NoSource) Change.Nothing → Follows extents plant (plantRule s plant (Event.Raise v)) m d m
+  module _ (v : Device) (f : Named) (p : f ≡ namedIn plant (v .devhandle) (v .devino)) where
+    pub raise-nothing : f ≡ Named.Nothing → d ≡ doneBy (Refused NoSource) Change.Nothing → Follows extents plant (plantRule s plant (Event.Raise v)) m d m
     unfolding plantRule raise
-    raise-nothing e g = quiet-told extents plant (plantRule s plant (Event.Raise v)) m d (Refused NoSource) g (rw (← p, e))
+    raise-nothing e g = quiet-told extents plant (plantRule s plant (Event.Raise v)) m d (Refused NoSource) g (rw (← named-nothing plant (v .devhandle) (v .devino) f p e))
 
-    pub raise-there : (after : List ℕ) (i : ℕ) → f ≡ Found.At i → Follows extents plant (raiseAt plant i) m d after → Follows extents plant (plantRule s plant (Event.Raise v)) m d after
+    pub raise-there : (after : List ℕ) (i : ℕ) (source : Source) → f ≡ Named.At i source → Follows extents plant (raiseAt plant i) m d after → Follows extents plant (plantRule s plant (Event.Raise v)) m d after
     unfolding plantRule raise
-    raise-there after i e g = rw (← p, e) g
+    raise-there after i source e g = rw (← named-at plant (v .devhandle) (v .devino) f p i source e) g
 
 -- the event that the code's match told
 pub event-as : (extents : Extents) (plant : Plant) (s : Sight) (m after : List ℕ) (d : Done) (e f : Event) → e ≡ f → Follows extents plant (plantRule s plant f) m d after → Follows extents plant (plantRule s plant e) m d after

@@ -15,6 +15,7 @@ use queues::cpu_qinfo;
 use records::Verdict;
 use rules::Answer;
 use rules::Call;
+use rules::Cpu;
 use rules::Extents;
 use rules::Function;
 use rules::Plant;
@@ -26,17 +27,20 @@ use versions::get_version;
 use versions::set_version;
 use words::mem_scrub;
 use words::mem_sync;
+ghost use mathlib.Core.Path.{_≡_};
 ghost use Prim.Native.Nat.{_<_};
 ghost use lib.ListN.{length};
+ghost use Rattle.rules.specs.Kept.{cpuAt};
 ghost use Rattle.rules.specs.Real.{sightOf};
 ghost use Rattle.rules.specs.Calls.{perform, call};
 ghost use Rattle.memory.specs.Ready.{present};
 ghost use Rattle.records.specs.Sound.{Sound};
 ghost use Rattle.plants.specs.Follows.{Follows};
 
-fn perform(extents: Extents, plant: Plant, mem: &mut [u8], c: Call, f: Function) -> Done
+fn perform(extents: Extents, plant: Plant, own: Cpu, mem: &mut [u8], c: Call, f: Function) -> Done
     requires { ⌜ Sound extents plant (length (now mem)) ⌝ }
     requires { ⌜ c .cpu < plant .cpus ⌝ }
+    requires { ⌜ own ≡ cpuAt plant (c .cpu) ⌝ }
     ensures { λ r. ⌜ Follows extents plant (perform (sightOf (present extents) (now (mem .entry))) plant c f)
         (now (mem .entry)) r (now (mem .exit)) ⌝ }
 {
@@ -50,7 +54,7 @@ fn perform(extents: Extents, plant: Plant, mem: &mut [u8], c: Call, f: Function)
         }
         Function::CpuQconf => cpu_qconf(extents, plant, cpu, c.arg0, c.arg1, c.arg2),
         Function::CpuQinfo => {
-            let answer = cpu_qinfo(plant, cpu, c.arg0);
+            let answer = cpu_qinfo(own, c.arg0);
             told(answer)
         }
         Function::CpuMyid => {
@@ -62,9 +66,9 @@ fn perform(extents: Extents, plant: Plant, mem: &mut [u8], c: Call, f: Function)
         Function::MmuTsbCtxnon0 => mmu_tsb_ctxnon0(extents, mem, cpu, c.arg0, c.arg1),
         Function::MemScrub => mem_scrub(extents, mem, c.arg0, c.arg1),
         Function::MemSync => mem_sync(extents, c.arg0, c.arg1),
-        Function::MmustatConf => mmustat_conf(extents, plant, cpu, c.arg0),
+        Function::MmustatConf => mmustat_conf(extents, own, cpu, c.arg0),
         Function::MmustatInfo => {
-            let answer = mmustat_info(plant, cpu);
+            let answer = mmustat_info(own);
             told(answer)
         }
         Function::IntrDevino2sysino => {
@@ -76,9 +80,10 @@ fn perform(extents: Extents, plant: Plant, mem: &mut [u8], c: Call, f: Function)
     }
 }
 
-pub(crate) fn call(extents: Extents, plant: Plant, mem: &mut [u8], c: Call) -> Done
+pub(crate) fn call(extents: Extents, plant: Plant, own: Cpu, mem: &mut [u8], c: Call) -> Done
     requires { ⌜ Sound extents plant (length (now mem)) ⌝ }
     requires { ⌜ c .cpu < plant .cpus ⌝ }
+    requires { ⌜ own ≡ cpuAt plant (c .cpu) ⌝ }
     ensures { λ r. ⌜ Follows extents plant (call (sightOf (present extents) (now (mem .entry))) plant c)
         (now (mem .entry)) r (now (mem .exit)) ⌝ }
 {
@@ -86,7 +91,7 @@ pub(crate) fn call(extents: Extents, plant: Plant, mem: &mut [u8], c: Call) -> D
     let versions = plant.versions;
     let verdict = admission(versions, f);
     match verdict {
-        Verdict::Right => perform(extents, plant, mem, c, f),
+        Verdict::Right => perform(extents, plant, own, mem, c, f),
         Verdict::Refused(r) => told(Answer::Refused(r)),
     }
 }

@@ -18,7 +18,7 @@ use Rattle.rules.specs.Kept.{guestAt, plantAt, extentsOf, withPlant}
 use Rattle.rules.specs.Real.{sightOf}
 use Rattle.rules.specs.Rulings.{Ruling, refused, granted, outcomeOf, _or-refuse_then_, if_then_else_}
 use Rattle.rules.specs.Tables.{keepRules}
-use Rattle.rules.specs.Limits.{guestLimit}
+use Rattle.rules.specs.Limits.{guestLimit, cpuLimit, sourceLimit}
 use Rattle.rules.specs.Host.{HostOutcome, plantRule, putBack, answeredBy, ownerOf, longEnough, hostRule, hostEvent}
 use Rattle.tables.proofs.SoundTables.{guests-few, plant-keeps, sound}
 use Rattle.records.proofs.SoundLaws.{plant-sources}
@@ -180,6 +180,12 @@ module _ (tables : Tables) (n : ℕ) (e : Verdict) (p : e ≡ doorOf tables n) w
 
       pub guest-sound : Sound (guestAt tables g .extents) (plantAt tables g) n
       guest-sound = seat-sound tables n event g (sym seat-is ∙ h) .1
+
+      pub guest-cpus : plantAt tables g .cpus ≤ cpuLimit
+      guest-cpus = guest-sound .cpus
+
+      pub guest-sources : plantAt tables g .sources ≤ sourceLimit
+      guest-sources = guest-sound .sources
 
 module _ (tables : Tables) (m : List ℕ) (e : Verdict) (p : e ≡ doorOf tables (length m)) (event : Event) (x : Seat) (q : x ≡ seatOf tables e event) (s : Settled) where
   pub settles-refused : (r : Refusal) → x ≡ Seat.Refused r → s ≡ record { answer = Refused r; tables = tables } → Settles (hostEvent tables m event) s m

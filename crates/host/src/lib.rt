@@ -42,7 +42,9 @@ pub fn event(tables: Tables, mem: &mut [u8], event: Event) -> Settled
             let guest = tables.guest[i];
             let extents = guest.extents;
             let plant = guest.plant;
-            let done = calls::plant_event(extents, plant, mem, event);
+            let c = calls::cpu_of(plant, event);
+            let own = plant.cpu[c];
+            let done = calls::plant_event(extents, plant, own, mem, event);
             let answer = done.answer;
             let after = plant_after(plant, done);
             Settled {

@@ -1,9 +1,10 @@
--- The rule of the statistics address at each return of the code: t is what the address was judged to be.
+-- The rule of the statistics address at each return of the code: t is what the address was judged to be, own the cpu's record.
 use mathlib.Core.Path.{_≡_, refl, sym, _∙_}
 use mathlib.Core.Bool.{Bool, true, false}
 use Prim.Native.Nat.{ℕ, _%_}
 use lib.Dec.{eqb}
 use borrow.Author.Tests.{eqb-true}
+use Rattle.rules.specs.declared.Cpu.{Cpu}
 use Rattle.rules.specs.declared.Plant.{Plant}
 use Rattle.rules.specs.declared.Refusal.{Refusal}
 use Rattle.rules.specs.declared.Answer.the-variants.{One, Refused}
@@ -41,6 +42,6 @@ module _ (v : ℕ → ℕ → Bool) (plant : Plant) (cpu address : ℕ) (t : Ver
   unfolding mmustat-conf
   conf-refused r e = rw (told-refused _ r (sym p ∙ e))
 
-  pub conf-set : t ≡ Right → mmustat-conf v plant cpu address ≡ says (One (cpuAt plant cpu .statistics)) (withStatistics plant cpu address)
+  pub conf-set : (own : Cpu) → cpuAt plant cpu ≡ own → t ≡ Right → mmustat-conf v plant cpu address ≡ says (One (own .statistics)) (withStatistics plant cpu address)
   unfolding mmustat-conf
-  conf-set e = rw (statistics-told v address (sym p ∙ e))
+  conf-set own o e = rw (statistics-told v address (sym p ∙ e), o)

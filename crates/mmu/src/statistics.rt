@@ -1,25 +1,27 @@
-// The statistics address: 0x102 and 0x103.
+// The statistics address: 0x102 and 0x103; own is the cpu's record, whatever else the plant's is.
 use plants::Change;
 use plants::CpuChange;
 use plants::Done;
 use plants::done_by;
 use records::Verdict;
 use rules::Answer;
+use rules::Cpu;
 use rules::Extents;
-use rules::Plant;
 ghost use mathlib.Core.Path.{_≡_};
-ghost use Prim.Native.Nat.{_≤_, _<_};
+ghost use Prim.Native.Nat.{ℕ, _≤_, _<_};
 ghost use Rattle.rules.specs.Limits.{cpuLimit, extentLimit};
-ghost use Rattle.rules.specs.Kept.{present};
+ghost use Rattle.rules.specs.declared.Plant.{Plant as PlantRecord};
+ghost use Rattle.rules.specs.Kept.{present, cpuAt};
 ghost use Rattle.rules.specs.Real.{valid};
 ghost use Rattle.rules.specs.Rulings.{outcomeOf};
 ghost use Rattle.rules.specs.Memory.{mmustat-conf, mmustat-info};
 ghost use Rattle.plants.specs.Done.{quietly, saying};
 
 // 0x102: the address is set, and the one before told. A refused address is not kept, and neither is the one before.
-pub fn mmustat_conf(extents: Extents, plant: Plant, cpu: usize, address: u64) -> Done
+pub fn mmustat_conf(extents: Extents, own: Cpu, cpu: usize, address: u64) -> Done
     requires { ⌜ (extents .extents ≤ extentLimit) × (cpu < cpuLimit) ⌝ }
-    ensures { λ r. ⌜ quietly plant r ≡ outcomeOf plant (mmustat-conf (valid (present extents)) plant cpu address) ⌝ }
+    ensures { λ r. ⌜ ((plant : PlantRecord) → cpuAt plant cpu ≡ own
+        → quietly plant r ≡ outcomeOf plant (mmustat-conf (valid (present extents)) plant cpu address)) ⌝ }
 {
     let verdict = records::judge_statistics(extents, address);
     match verdict {
@@ -28,18 +30,15 @@ pub fn mmustat_conf(extents: Extents, plant: Plant, cpu: usize, address: u64) ->
             done_by(Answer::Refused(r), cleared)
         }
         Verdict::Right => {
-            let before = plant.cpu[cpu];
             let set = Change::Cpu(cpu, CpuChange::Statistics(address));
-            done_by(Answer::One(before.statistics), set)
+            done_by(Answer::One(own.statistics), set)
         }
     }
 }
 
 // 0x103: the address.
-pub fn mmustat_info(plant: Plant, cpu: usize) -> Answer
-    requires { ⌜ cpu < cpuLimit ⌝ }
-    ensures { λ r. ⌜ saying plant r ≡ outcomeOf plant (mmustat-info plant cpu) ⌝ }
+pub fn mmustat_info(own: Cpu) -> Answer
+    ensures { λ r. ⌜ ((plant : PlantRecord) (cpu : ℕ) → cpuAt plant cpu ≡ own → saying plant r ≡ outcomeOf plant (mmustat-info plant cpu)) ⌝ }
 {
-    let c = plant.cpu[cpu];
-    Answer::One(c.statistics)
+    Answer::One(own.statistics)
 }

@@ -11,6 +11,7 @@ use lib.Seq.{slice, slice-cons, slice-empty}
 use borrow.Author.Tests.{leb-false}
 use Rattle.rules.specs.declared.Extents.{Extents}
 use Rattle.rules.specs.declared.Plant.{Plant}
+use Rattle.rules.specs.declared.Queue.{Queue}
 use Rattle.rules.specs.Kept.{cpuAt, queueAt, withQueue}
 use Rattle.rules.specs.Real.{apply}
 use Rattle.rules.specs.Queues.{put}
@@ -19,7 +20,7 @@ use Rattle.memory.specs.Ready.{present}
 use Rattle.memory.proofs.Writes.{apply-append}
 use Rattle.records.specs.Sound.{Sound}
 use Rattle.plants.proofs.SoundAfter.{queue-replaced, put-sound}
-use Rattle.mondo.specs.Steps.{Told, Sends}
+use Rattle.mondo.specs.Steps.{Told, Sends, ringsOf}
 use Rattle.mondo.proofs.MondoLaws.{one-passed}
 
 -- an entry that is not passed over, and no stranger, is a cpuid
@@ -30,6 +31,12 @@ other-below cpus listed a o = leb-false cpus listed (rw o at a)
 pub index-below : (cpus i count : ℕ) (cs : List ℕ) (t : Bool) → cpus ≤ 8 → ((j : ℕ) → j < count → isStranger cpus (getD cs j 0) ≡ false) → i < count → t ≡ passedOver (getD cs i 0) → t ≡ false
     → getD cs i 0 < 8
 index-below cpus i count cs t n a h p e = omega (arith, other-below cpus (getD cs i 0) (a i h) (sym p ∙ e))
+
+-- the loop reads no plant, and sends for any whose rings are those that were read and whose cpus are those listed
+pub record Owns (extents : Extents) (n count : ℕ) (cs : List ℕ) (rings : List Queue) (plant : Plant) : Type 0 where
+  pub sound : Sound extents plant n
+  pub known : (i : ℕ) → i < count → isStranger (plant .cpus) (getD cs i 0) ≡ false
+  pub own : rings ≡ ringsOf plant
 
 -- what one step keeps
 pub record Keeps (extents : Extents) (n cpus : ℕ) (plant : Plant) : Type 0 where

@@ -1,18 +1,21 @@
 -- The steps of 0x42's rule that are functions of their own in the code.
 use mathlib.Core.Path.{_≡_}
 use mathlib.Core.Bool.{Bool, _&&_, not}
-use mathlib.Core.List.{List, _++_}
+use mathlib.Core.List.{List, _++_, map}
 use Prim.Native.Nat.{ℕ, _*_, _%_}
 use lib.Dec.{leb, eqb}
 use Rattle.rules.specs.declared.Answer.{Answer}
+use Rattle.rules.specs.declared.Cpu.{Cpu}
 use Rattle.rules.specs.declared.Extents.{Extents}
 use Rattle.rules.specs.declared.Plant.{Plant}
+use Rattle.rules.specs.declared.Queue.{Queue}
 use Rattle.rules.specs.declared.QueueRecord.{QueueRecord}
 use Rattle.rules.specs.declared.Refusal.the-variants.{EINVAL, EBADALIGN, ENORADDR, ENOCPU}
+use Rattle.rules.specs.Kept.{queueAt}
 use Rattle.rules.specs.Scan.{someBelow}
 use Rattle.rules.specs.Real.{Sight, bytesFrom, apply}
 use Rattle.rules.specs.Rulings.{Ruling, granted, Outcome, _or-refuse_then_}
-use Rattle.rules.specs.Queues.{PutIn, putIn}
+use Rattle.rules.specs.Queues.{PutIn, putIn, indexOf}
 use Rattle.rules.specs.Mondo.{listedCpu, listedCpus, isCaller, isStranger, Sent, marked, sendAll, sentAs}
 use Rattle.memory.specs.Ready.{present}
 use Rattle.plants.specs.declared.change.Change.{Change}
@@ -61,6 +64,19 @@ pub record Sends (extents : Extents) (sent : Sent) (before : List ℕ) (r : Told
 unfoldable pub tailOf : QueueRecord → ℕ
 tailOf QueueRecord.Unset = 0
 tailOf (QueueRecord.Set ring) = ring .tail
+
+-- the 0x3c queue of each cpu, and the tails of such queues
+abbrev pub ringIn : Cpu → Queue
+ringIn cpu = record { held = queueAt cpu (indexOf 0x3c) }
+
+unfoldable pub ringsOf : Plant → List Queue
+ringsOf plant = map ringIn (plant .cpu)
+
+abbrev pub tailIn : Queue → ℕ
+tailIn queue = tailOf (queue .held)
+
+unfoldable pub tailsOf : List Queue → List ℕ
+tailsOf rings = map tailIn rings
 
 -- an answer, with the tails of the 0x3c rings there
 unfoldable pub sentBy : Answer → List ℕ → Done

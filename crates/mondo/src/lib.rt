@@ -11,6 +11,7 @@ use rules::Answer;
 use rules::CPUS;
 use rules::Extents;
 use rules::Plant;
+use rules::Queue;
 use rules::QueueRecord;
 use rules::Real;
 use rules::Refusal;
@@ -18,7 +19,7 @@ ghost use mathlib.Core.Path.{_≡_};
 ghost use mathlib.Core.Bool.{true, false};
 ghost use Prim.Native.Nat.{ℕ, _*_, _<_, _≤_};
 ghost use lib.ListN.{length, getD, take};
-ghost use Rattle.rules.specs.Limits.{cpuLimit, extentLimit};
+ghost use Rattle.rules.specs.Limits.{extentLimit};
 ghost use Rattle.rules.specs.Scan.{someBelow};
 ghost use Rattle.rules.specs.Real.{valid, byteAt, sightOf};
 ghost use Rattle.rules.specs.Rulings.{Ruling, Outcome};
@@ -29,7 +30,7 @@ ghost use Rattle.plants.specs.Changes.{withTails};
 ghost use Rattle.plants.specs.Follows.{Follows};
 ghost use Rattle.plants.specs.Judged.{judged};
 ghost use Rattle.plants.specs.Put.{PutsIn, HeldSound};
-ghost use Rattle.mondo.specs.Steps.{mondoRanges, mondoCpus, mondoSent, sendIn, Sends, tailOf, sentBy};
+ghost use Rattle.mondo.specs.Steps.{mondoRanges, mondoCpus, mondoSent, sendIn, Sends, tailOf, ringsOf, tailsOf, sentBy};
 
 // The longest list.
 const MONDOS: usize = 64;
@@ -180,17 +181,31 @@ fn tail_of(held: QueueRecord) -> u16
     }
 }
 
-// The tails of the 0x3c rings as they are.
-fn tails_of(plant: Plant) -> [u16; CPUS]
-    requires { ⌜ plant .cpus ≤ cpuLimit ⌝ }
-    ensures { λ r. ⌜ withTails plant r ≡ plant ⌝ }
+// The 0x3c queue of each cpu. A loop of CPUS turns lets the compiler read them where they are.
+fn rings_of(plant: Plant) -> [Queue; CPUS]
+    ensures { λ r. ⌜ r ≡ ringsOf plant ⌝ }
 {
-    let n = plant.cpus as usize;
+    let unset = Queue {
+        held: QueueRecord::Unset,
+    };
+    let mut rings = [unset; CPUS];
+    let mut i = 0;
+    while i < CPUS {
+        let c = plant.cpu[i];
+        rings[i] = c.queue[0];
+        i += 1;
+    }
+    rings
+}
+
+// The tails of the 0x3c rings as they are.
+fn tails_of(rings: [Queue; CPUS]) -> [u16; CPUS]
+    ensures { λ r. ⌜ r ≡ tailsOf rings ⌝ }
+{
     let mut tails = [0u16; CPUS];
     let mut i = 0;
-    while i < n {
-        let c = plant.cpu[i];
-        let queue = c.queue[0];
+    while i < CPUS {
+        let queue = rings[i];
         let held = queue.held;
         tails[i] = tail_of(held);
         i += 1;
@@ -216,7 +231,8 @@ fn send_all(
     ensures { λ r. ⌜ Sends extents (sendAll plant (take count (now (cpus .entry))) (now (packet .entry)) list)
         (now (mem .entry)) (record { plant = withTails plant (r .tails); all = r .all }) (now (mem .exit)) ⌝ }
 {
-    let mut tails = tails_of(plant);
+    let rings = rings_of(plant);
+    let mut tails = tails_of(rings);
     let mut all = true;
     let mut i = 0;
     while i < count {
@@ -227,8 +243,7 @@ fn send_all(
             continue;
         }
         let cpu = listed as usize;
-        let c = plant.cpu[cpu];
-        let queue = c.queue[0];
+        let queue = rings[cpu];
         let held = queue.held;
         let now = at_tail(held, tails[cpu]);
         let put = send_one(extents, now, mem, packet, mark);

@@ -1,13 +1,14 @@
 -- Promise: no second outcome, of the calls and of what they share, which the crates below `calls` give it and each other. As in
 -- Determined. A call tells what it changes of a plant's record: there is one answer and one record after, however it is told.
-use mathlib.Core.Path.{_≡_, sym, _∙_}
-use mathlib.Core.List.{List}
+use mathlib.Core.Path.{_≡_, refl, sym, _∙_}
+use mathlib.Core.List.{List, [], _∷_}
 use Prim.Native.Nat.{ℕ}
 use denote.Ref.{now}
 use Rattle.rules.specs.declared.Answer.{Answer}
+use Rattle.rules.specs.declared.Cpu.{Cpu}
 use Rattle.rules.specs.declared.Extents.{Extents}
 use Rattle.rules.specs.declared.Plant.{Plant}
-use Rattle.rules.specs.Kept.{hollowGuest}
+use Rattle.rules.specs.Kept.{noVersions, hollowGuest, cpuAt}
 use Rattle.rules.specs.Rulings.{Ruling, Outcome}
 use Rattle.plants.specs.declared.change.Done.{Done}
 use Rattle.plants.specs.Changes.{plantAfter}
@@ -16,7 +17,6 @@ use Rattle.plants.specs.Follows.{Follows}
 use Rattle.plants.proofs.at_tail.Reads as at-tail-reads
 use Rattle.plants.proofs.told.Reads as told-reads
 use Rattle.plants.proofs.done_by.Reads as done-by-reads
-use Rattle.plants.proofs.is_change.Reads as is-change-reads
 use Rattle.plants.proofs.plant_after.Reads as plant-after-reads
 use Rattle.plants.proofs.put_entry.Reads as put-entry-reads
 use Rattle.versions.proofs.set_version.Reads as set-version-reads
@@ -38,6 +38,7 @@ use Rattle.sources.proofs.intr.Reads as intr-reads
 use Rattle.sources.proofs.vintr.Reads as vintr-reads
 use Rattle.sources.proofs.intr_devino2sysino.Reads as intr-devino2sysino-reads
 use Rattle.raise.proofs.raise_at.Reads as raise-at-reads
+use Rattle.calls.proofs.cpu_of.Reads as cpu-of-reads
 use Rattle.calls.proofs.plant_event.Reads as plant-event-reads
 
 -- the same answer, and the same record after
@@ -54,6 +55,10 @@ one-answer plant o r s p q = λ i. (p ∙ sym q) i .answer
 one-following : (e : Extents) (plant : Plant) (x : Ruling Outcome) (before : List ℕ) (r s : Done) (m n : List ℕ) → Follows e plant x before r m → Follows e plant x before s n → Same plant r s × (m ≡ n)
 one-following e plant x before r s m n p q = ((p .answer ∙ sym (q .answer), p .plant ∙ sym (q .plant)), p .memory ∙ sym (q .memory))
 
+-- a plant that has one cpu
+abbrev plantOf : Cpu → Plant
+plantOf own = record { versions = noVersions; cpus = 1; cpu = own ∷ []; sources = 0; source = [] }
+
 -- plants: what the calls share: what they give back, the record after, and an entry in a ring
 pub at-tail-determined : (κs : _) (a : _) (r s : _) (ws vs : _) → at-tail-reads.Post κs a r ws → at-tail-reads.Post κs a s vs → r ≡ s
 at-tail-determined κs a r s ws vs p q = p ∙ sym q
@@ -63,9 +68,6 @@ told-determined κs a r s ws vs p q = p ∙ sym q
 
 pub done-by-determined : (κs : _) (a : _) (r s : _) (ws vs : _) → done-by-reads.Post κs a r ws → done-by-reads.Post κs a s vs → r ≡ s
 done-by-determined κs a r s ws vs p q = p ∙ sym q
-
-pub is-change-determined : (κs : _) (a : _) (r s : _) (ws vs : _) → is-change-reads.Post κs a r ws → is-change-reads.Post κs a s vs → r ≡ s
-is-change-determined κs a r s ws vs p q = p ∙ sym q
 
 pub plant-after-determined : (κs : _) (a : _) (r s : _) (ws vs : _) → plant-after-reads.Post κs a r ws → plant-after-reads.Post κs a s vs → r ≡ s
 plant-after-determined κs a r s ws vs p q = p ∙ sym q
@@ -84,11 +86,11 @@ get-version-determined κs a r s ws vs p q = one-answer _ _ r s p q
 pub cpu-qconf-determined : (κs : _) (a : _) (r s : _) (ws vs : _) → cpu-qconf-reads.Post κs a r ws → cpu-qconf-reads.Post κs a s vs → Same (a .1 .0) r s
 cpu-qconf-determined κs a r s ws vs p q = one-done _ _ r s p q
 
-pub write-head-determined : (κs : _) (a : _) (r s : _) (ws vs : _) → write-head-reads.Post κs a r ws → write-head-reads.Post κs a s vs → Same (a .0) r s
-write-head-determined κs a r s ws vs p q = one-done _ _ r s p q
+pub write-head-determined : (κs : _) (a : _) (r s : _) (ws vs : _) → write-head-reads.Post κs a r ws → write-head-reads.Post κs a s vs → (plant : Plant) → cpuAt plant (a .1 .0) ≡ a .0 → Same plant r s
+write-head-determined κs a r s ws vs p q plant h = one-done _ _ r s (p plant h) (q plant h)
 
 pub cpu-qinfo-determined : (κs : _) (a : _) (r s : _) (ws vs : _) → cpu-qinfo-reads.Post κs a r ws → cpu-qinfo-reads.Post κs a s vs → r ≡ s
-cpu-qinfo-determined κs a r s ws vs p q = one-answer _ _ r s p q
+cpu-qinfo-determined κs a r s ws vs p q = one-answer _ _ r s (p (plantOf (a .0)) 0 refl) (q (plantOf (a .0)) 0 refl)
 
 pub cpu-myid-determined : (κs : _) (a : _) (r s : _) (ws vs : _) → cpu-myid-reads.Post κs a r ws → cpu-myid-reads.Post κs a s vs → r ≡ s
 cpu-myid-determined κs a r s ws vs p q = one-answer (hollowGuest .plant) _ r s (p (hollowGuest .plant)) (q (hollowGuest .plant))
@@ -98,11 +100,11 @@ pub cpu-mondo-send-determined : (κs : _) (a : _) (r s : _) (ws vs : _) → cpu-
 cpu-mondo-send-determined κs a r s ws vs p q = one-following _ _ _ _ r s _ _ p q
 
 -- mmu: 0x20, 0x21, 0x102 and 0x103
-pub mmustat-conf-determined : (κs : _) (a : _) (r s : _) (ws vs : _) → mmustat-conf-reads.Post κs a r ws → mmustat-conf-reads.Post κs a s vs → Same (a .1 .0) r s
-mmustat-conf-determined κs a r s ws vs p q = one-done _ _ r s p q
+pub mmustat-conf-determined : (κs : _) (a : _) (r s : _) (ws vs : _) → mmustat-conf-reads.Post κs a r ws → mmustat-conf-reads.Post κs a s vs → (plant : Plant) → cpuAt plant (a .1 .1 .0) ≡ a .1 .0 → Same plant r s
+mmustat-conf-determined κs a r s ws vs p q plant h = one-done _ _ r s (p plant h) (q plant h)
 
 pub mmustat-info-determined : (κs : _) (a : _) (r s : _) (ws vs : _) → mmustat-info-reads.Post κs a r ws → mmustat-info-reads.Post κs a s vs → r ≡ s
-mmustat-info-determined κs a r s ws vs p q = one-answer _ _ r s p q
+mmustat-info-determined κs a r s ws vs p q = one-answer _ _ r s (p (plantOf (a .0)) 0 refl) (q (plantOf (a .0)) 0 refl)
 
 pub mmu-tsb-ctx0-determined : (κs : _) (a : _) (r s : _) (ws vs : _) → mmu-tsb-ctx0-reads.Post κs a r ws → mmu-tsb-ctx0-reads.Post κs a s vs → (plant : Plant) → Same plant r s
 mmu-tsb-ctx0-determined κs a r s ws vs p q plant = one-following _ _ _ _ r s _ _ (p plant) (q plant) .0
@@ -134,9 +136,12 @@ pub intr-devino2sysino-determined : (κs : _) (a : _) (r s : _) (ws vs : _) → 
 intr-devino2sysino-determined κs a r s ws vs p q = one-answer _ _ r s p q
 
 -- raise: raise
-pub raise-at-determined : (κs : _) (a : _) (r s : _) (ws vs : _) → raise-at-reads.Post κs a r ws → raise-at-reads.Post κs a s vs → Same (a .1 .0) r s × (now (ws .1 .1 .0) ≡ now (vs .1 .1 .0))
+pub raise-at-determined : (κs : _) (a : _) (r s : _) (ws vs : _) → raise-at-reads.Post κs a r ws → raise-at-reads.Post κs a s vs → Same (a .1 .0) r s × (now (ws .1 .1 .1 .0) ≡ now (vs .1 .1 .1 .0))
 raise-at-determined κs a r s ws vs p q = one-following _ _ _ _ r s _ _ p q
 
--- calls: a plant's own event
-pub plant-event-determined : (κs : _) (a : _) (r s : _) (ws vs : _) → plant-event-reads.Post κs a r ws → plant-event-reads.Post κs a s vs → Same (a .1 .0) r s × (now (ws .1 .1 .0) ≡ now (vs .1 .1 .0))
+-- calls: a plant's own event, and the cpu whose record it looks at
+pub cpu-of-determined : (κs : _) (a : _) (r s : _) (ws vs : _) → cpu-of-reads.Post κs a r ws → cpu-of-reads.Post κs a s vs → r ≡ s
+cpu-of-determined κs a r s ws vs p q = p ∙ sym q
+
+pub plant-event-determined : (κs : _) (a : _) (r s : _) (ws vs : _) → plant-event-reads.Post κs a r ws → plant-event-reads.Post κs a s vs → Same (a .1 .0) r s × (now (ws .1 .1 .1 .0) ≡ now (vs .1 .1 .1 .0))
 plant-event-determined κs a r s ws vs p q = one-following _ _ _ _ r s _ _ p q

@@ -34,6 +34,7 @@ use Rattle.records.proofs.blank.versions.Reads as blank-versions-reads
 use Rattle.records.proofs.blank.guest.Reads as blank-guest-reads
 use Rattle.records.proofs.blank.guests.Reads as blank-guests-reads
 use Rattle.records.proofs.blank.no_guests.Reads as blank-no-guests-reads
+use Rattle.sources.proofs.source_named.Reads as source-named-reads
 use Rattle.sources.proofs.sysino_of.Reads as sysino-of-reads
 use Rattle.memory.proofs.write.Reads as write-reads
 use Rattle.memory.proofs.write_at.Reads as write-at-reads
@@ -144,7 +145,10 @@ blank-guests-determined κs a r s ws vs p q = p ∙ sym q
 pub blank-no-guests-determined : (κs : _) (a : _) (r s : _) (ws vs : _) → blank-no-guests-reads.Post κs a r ws → blank-no-guests-reads.Post κs a s vs → r ≡ s
 blank-no-guests-determined κs a r s ws vs p q = p ∙ sym q
 
--- sources: a source's position
+-- sources: the source of a name, and its position alone
+pub source-named-determined : (κs : _) (a : _) (r s : _) (ws vs : _) → source-named-reads.Post κs a r ws → source-named-reads.Post κs a s vs → r ≡ s
+source-named-determined κs a r s ws vs p q = p ∙ sym q
+
 pub sysino-of-determined : (κs : _) (a : _) (r s : _) (ws vs : _) → sysino-of-reads.Post κs a r ws → sysino-of-reads.Post κs a s vs → r ≡ s
 sysino-of-determined κs a r s ws vs p q = p ∙ sym q
 

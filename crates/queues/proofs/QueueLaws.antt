@@ -5,6 +5,7 @@ use Prim.Native.Nat.{ℕ, _-_, _*_, _/_, _≤_, _<_}
 use native.Mathlib.Omega.{arith}
 use lib.Dec.{leb}
 use borrow.Author.Tests.{le-leb, lt-leb, eq-eqb, ne-eqb, leb-true}
+use Rattle.rules.specs.declared.Cpu.{Cpu}
 use Rattle.rules.specs.declared.Found.{Found}
 use Rattle.rules.specs.declared.Plant.{Plant}
 use Rattle.rules.specs.declared.Ring.{Ring}
@@ -93,7 +94,7 @@ module _ (v : ℕ → ℕ → Bool) (plant : Plant) (cpu queue base n : ℕ) whe
       unfolding cpu-qconf
       qconf-set q x e = rw (i, ne-eqb n 0 z, ring-told v base n (sym p ∙ e), x)
 
--- 0x15 and the head write; held is the queue's record
+-- 0x15 and the head write; own is the cpu's record, and held the queue's
 module _ (plant : Plant) (cpu queue : ℕ) where
   pub qinfo-no-queue : isQueue queue ≡ false → cpu-qinfo plant cpu queue ≡ refused EINVAL
   unfolding cpu-qinfo
@@ -103,24 +104,24 @@ module _ (plant : Plant) (cpu queue : ℕ) where
   unfolding write-head
   head-no-queue value i = rw i
 
-  module _ (i : isQueue queue ≡ true) (q : ℕ) (x : q ≡ queue - 0x3c) (held : QueueRecord) (p : held ≡ queueAt (cpuAt plant cpu) q) where
+  module _ (own : Cpu) (o : cpuAt plant cpu ≡ own) (i : isQueue queue ≡ true) (q : ℕ) (x : q ≡ queue - 0x3c) (held : QueueRecord) (p : held ≡ queueAt own q) where
     pub qinfo-unset : held ≡ QueueRecord.Unset → cpu-qinfo plant cpu queue ≡ says (Two 0 0) plant
     unfolding cpu-qinfo
-    qinfo-unset e = rw (i, ← x, ← p, e)
+    qinfo-unset e = rw (i, ← x, o, ← p, e)
 
     pub head-unset : (value : ℕ) → held ≡ QueueRecord.Unset → write-head plant cpu queue value ≡ refused EINVAL
     unfolding write-head
-    head-unset value e = rw (i, ← x, ← p, e)
+    head-unset value e = rw (i, ← x, o, ← p, e)
 
     module _ (ring : Ring) (e : held ≡ QueueRecord.Set ring) where
       pub qinfo-set : cpu-qinfo plant cpu queue ≡ says (Two (ring .base) (ring .size / 64)) plant
       unfolding cpu-qinfo
-      qinfo-set = rw (i, ← x, ← p, e)
+      qinfo-set = rw (i, ← x, o, ← p, e)
 
       module _ (value : ℕ) (m : Moved) (w : m ≡ movedOf (newHead ring value)) where
         by-ring : write-head plant cpu queue value ≡ (newHead ring value grants λ next. done (withQueue plant cpu q (QueueRecord.Set next)))
         unfolding write-head
-        by-ring = rw (i, ← x, ← p, e) (head-then ring value (λ next. done (withQueue plant cpu q (QueueRecord.Set next))))
+        by-ring = rw (i, ← x, o, ← p, e) (head-then ring value (λ next. done (withQueue plant cpu q (QueueRecord.Set next))))
 
         pub head-refused : (r : Refusal) → m ≡ Moved.Refused r → write-head plant cpu queue value ≡ refused r
         head-refused r f = rw (by-ring, moved-refused _ r (sym w ∙ f))

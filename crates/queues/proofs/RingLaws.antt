@@ -5,21 +5,21 @@ use Prim.Native.Nat.{ℕ, _-_, _%_, _≤_, _<_}
 use native.Mathlib.Omega.{arith}
 use lib.Dec.{leb, ltb, eqb}
 use borrow.Author.Tests.{le-leb, lt-leb, lt-ltb, le-ltb, eq-eqb, ne-eqb}
-use Rattle.rules.specs.declared.Plant.{Plant}
+use Rattle.rules.specs.declared.Cpu.{Cpu}
 use Rattle.rules.specs.declared.Ring.{Ring}
 use Rattle.rules.specs.declared.QueueRecord.{QueueRecord}
 use Rattle.rules.specs.declared.Refusal.{Refusal}
 use Rattle.rules.specs.declared.Refusal.the-variants.{EINVAL, EBADALIGN}
-use Rattle.rules.specs.Kept.{cpuAt, queueAt, withHead}
+use Rattle.rules.specs.Kept.{queueAt, withHead}
 use Rattle.rules.specs.Rulings.{Ruling, refused, granted, _or-refuse_then_, _grants_}
 use Rattle.rules.specs.Queues.{forward}
 use Rattle.queues.specs.declared.Moved.{Moved}
 use Rattle.queues.specs.Rings.{PlacesIn, PlacesSound, newHead, movedOf}
 
 -- the ring of a sound record is sound
-pub sound-there : (plant : Plant) (cpu queue q : ℕ) (held : QueueRecord) (ring : Ring) → (queue ≤ 0x3f → PlacesSound (queueAt (cpuAt plant cpu) (queue - 0x3c)))
-    → queue ≤ 0x3f → q ≡ queue - 0x3c → held ≡ queueAt (cpuAt plant cpu) q → held ≡ QueueRecord.Set ring → PlacesIn ring
-sound-there plant cpu queue q held ring f h x p e = rw (← x, ← p, e) at (f h)
+pub sound-there : (own : Cpu) (queue q : ℕ) (held : QueueRecord) (ring : Ring) → (queue ≤ 0x3f → PlacesSound (queueAt own (queue - 0x3c)))
+    → queue ≤ 0x3f → q ≡ queue - 0x3c → held ≡ queueAt own q → held ≡ QueueRecord.Set ring → PlacesIn ring
+sound-there own queue q held ring f h x p e = rw (← x, ← p, e) at (f h)
 
 -- what follows the head write's tests is what its rule grants
 pub head-then : {A : Type 0} (ring : Ring) (value : ℕ) (f : Ring → Ruling A) → (eqb (value % 64) 0 or-refuse EBADALIGN then (ltb value (ring .size) && leb (forward ring value) (forward ring (ring .tail))) or-refuse EINVAL then f (withHead ring value)) ≡ (newHead ring value grants f)

@@ -6,6 +6,7 @@ use plants::done_by;
 use plants::told;
 use records::Verdict;
 use rules::Answer;
+use rules::Cpu;
 use rules::Extents;
 use rules::Found;
 use rules::Plant;
@@ -13,7 +14,7 @@ use rules::QueueRecord;
 use rules::Refusal;
 use rules::Ring;
 ghost use mathlib.Core.Path.{_≡_};
-ghost use Prim.Native.Nat.{_≤_, _<_, _-_};
+ghost use Prim.Native.Nat.{ℕ, _≤_, _<_, _-_};
 ghost use Rattle.rules.specs.Limits.{cpuLimit, extentLimit, queueLimit};
 ghost use Rattle.rules.specs.Rulings.{outcomeOf};
 ghost use Rattle.rules.specs.declared.Plant.{Plant as PlantRecord};
@@ -39,12 +40,11 @@ fn place_of(queue: u64) -> Found
 }
 
 // Queue q of a cpu.
-fn queue_at(plant: Plant, cpu: usize, q: usize) -> QueueRecord
-    requires { ⌜ (cpu < cpuLimit) × (q < queueLimit) ⌝ }
-    ensures { λ r. ⌜ r ≡ queueAt (cpuAt plant cpu) q ⌝ }
+fn queue_at(own: Cpu, q: usize) -> QueueRecord
+    requires { ⌜ q < queueLimit ⌝ }
+    ensures { λ r. ⌜ r ≡ queueAt own q ⌝ }
 {
-    let c = plant.cpu[cpu];
-    let queue = c.queue[q];
+    let queue = own.queue[q];
     queue.held
 }
 
@@ -82,16 +82,15 @@ pub fn cpu_qconf(extents: Extents, plant: Plant, cpu: usize, queue: u64, base: u
     }
 }
 
-// 0x15: a queue's base and number of entries, both 0 if it is unset.
-pub fn cpu_qinfo(plant: Plant, cpu: usize, queue: u64) -> Answer
-    requires { ⌜ cpu < cpuLimit ⌝ }
-    ensures { λ r. ⌜ saying plant r ≡ outcomeOf plant (cpu-qinfo plant cpu queue) ⌝ }
+// 0x15: a queue's base and number of entries, both 0 if it is unset; own is the cpu's record, whatever else the plant's is.
+pub fn cpu_qinfo(own: Cpu, queue: u64) -> Answer
+    ensures { λ r. ⌜ ((plant : PlantRecord) (cpu : ℕ) → cpuAt plant cpu ≡ own → saying plant r ≡ outcomeOf plant (cpu-qinfo plant cpu queue)) ⌝ }
 {
     let place = place_of(queue);
     let Found::At(q) = place else {
         return Answer::Refused(Refusal::EINVAL);
     };
-    let held = queue_at(plant, cpu, q);
+    let held = queue_at(own, q);
     match held {
         QueueRecord::Unset => Answer::Two(0, 0),
         QueueRecord::Set(ring) => Answer::Two(ring.base, (ring.size as u64) / 64),
@@ -157,16 +156,16 @@ fn head_moves(ring: Ring, value: u64) -> Moved
     Moved::To(next)
 }
 
-// The head write: it moves the one field of one ring.
-pub fn write_head(plant: Plant, cpu: usize, queue: u64, value: u64) -> Done
-    requires { ⌜ (cpu < cpuLimit) × (queue ≤ 0x3f → PlacesSound (queueAt (cpuAt plant cpu) (queue - 0x3c))) ⌝ }
-    ensures { λ r. ⌜ quietly plant r ≡ outcomeOf plant (write-head plant cpu queue value) ⌝ }
+// The head write: it moves the one field of one ring. Of the plant it reads the cpu's own record only.
+pub fn write_head(own: Cpu, cpu: usize, queue: u64, value: u64) -> Done
+    requires { ⌜ (cpu < cpuLimit) × (queue ≤ 0x3f → PlacesSound (queueAt own (queue - 0x3c))) ⌝ }
+    ensures { λ r. ⌜ ((plant : PlantRecord) → cpuAt plant cpu ≡ own → quietly plant r ≡ outcomeOf plant (write-head plant cpu queue value)) ⌝ }
 {
     let place = place_of(queue);
     let Found::At(q) = place else {
         return told(Answer::Refused(Refusal::EINVAL));
     };
-    let held = queue_at(plant, cpu, q);
+    let held = queue_at(own, q);
     let QueueRecord::Set(ring) = held else {
         return told(Answer::Refused(Refusal::EINVAL));
     };

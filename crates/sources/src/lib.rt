@@ -15,11 +15,14 @@ ghost use mathlib.Core.Bool.{_&&_};
 ghost use Prim.Native.Nat.{_≤_, _<_};
 ghost use lib.Dec.{eqb};
 ghost use Rattle.rules.specs.Limits.{sourceLimit};
+ghost use Rattle.rules.specs.declared.Plant.{Plant as PlantRecord};
 ghost use Rattle.rules.specs.Image.{named};
+ghost use Rattle.rules.specs.Kept.{sourceAt};
 ghost use Rattle.rules.specs.Rulings.{outcomeOf};
-ghost use Rattle.rules.specs.Sources.{get-enabled, set-enabled, get-state, set-state, get-target, set-target, get-cookie, set-cookie};
+ghost use Rattle.rules.specs.Sources.{set-enabled, set-state, set-target, set-cookie};
 ghost use Rattle.rules.specs.Sources.{sysinoOf, intr-devino2sysino, sourceCall, cookieCall, intr, vintr};
 ghost use Rattle.plants.specs.Done.{quietly, saying};
+ghost use Rattle.sources.specs.Seen.{namedIn, Shows};
 
 fn is_named(s: Source, devhandle: u64, devino: u64) -> bool
     ensures { λ r. ⌜ r ≡ named s devhandle devino ⌝ }
@@ -30,10 +33,16 @@ fn is_named(s: Source, devhandle: u64, devino: u64) -> bool
     s.devino as u64 == devino
 }
 
-// The position in the guest's own list: what lies past its end is not looked at.
-pub fn sysino_of(plant: Plant, devhandle: u64, devino: u64) -> Found
+// No source of that name; or its position in the guest's own list, and its record.
+pub enum Named {
+    Nothing,
+    At(usize, Source),
+}
+
+// The source of a name; what lies past the end of the list is not looked at.
+pub fn source_named(plant: Plant, devhandle: u64, devino: u64) -> Named
     requires { ⌜ plant .sources ≤ sourceLimit ⌝ }
-    ensures { λ r. ⌜ r ≡ sysinoOf plant devhandle devino ⌝ }
+    ensures { λ r. ⌜ r ≡ namedIn plant devhandle devino ⌝ }
 {
     let count = plant.sources as usize;
     let source = plant.source;
@@ -41,43 +50,23 @@ pub fn sysino_of(plant: Plant, devhandle: u64, devino: u64) -> Found
     while i < count {
         let s = source[i];
         if is_named(s, devhandle, devino) {
-            return Found::At(i);
+            return Named::At(i, s);
         }
         i += 1;
     }
-    Found::Nothing
+    Named::Nothing
 }
 
-fn get_enabled(plant: Plant, i: usize) -> Answer
-    requires { ⌜ i < sourceLimit ⌝ }
-    ensures { λ r. ⌜ saying plant r ≡ outcomeOf plant (get-enabled plant i) ⌝ }
+// The position alone.
+pub fn sysino_of(plant: Plant, devhandle: u64, devino: u64) -> Found
+    requires { ⌜ plant .sources ≤ sourceLimit ⌝ }
+    ensures { λ r. ⌜ r ≡ sysinoOf plant devhandle devino ⌝ }
 {
-    let s = plant.source[i];
-    Answer::One(s.enabled as u64)
-}
-
-fn get_state(plant: Plant, i: usize) -> Answer
-    requires { ⌜ i < sourceLimit ⌝ }
-    ensures { λ r. ⌜ saying plant r ≡ outcomeOf plant (get-state plant i) ⌝ }
-{
-    let s = plant.source[i];
-    Answer::One(s.state as u64)
-}
-
-fn get_cookie(plant: Plant, i: usize) -> Answer
-    requires { ⌜ i < sourceLimit ⌝ }
-    ensures { λ r. ⌜ saying plant r ≡ outcomeOf plant (get-cookie plant i) ⌝ }
-{
-    let s = plant.source[i];
-    Answer::One(s.cookie)
-}
-
-fn get_target(plant: Plant, i: usize) -> Answer
-    requires { ⌜ i < sourceLimit ⌝ }
-    ensures { λ r. ⌜ saying plant r ≡ outcomeOf plant (get-target plant i) ⌝ }
-{
-    let s = plant.source[i];
-    Answer::One(s.target as u64)
+    let found = source_named(plant, devhandle, devino);
+    match found {
+        Named::Nothing => Found::Nothing,
+        Named::At(i, _) => Found::At(i),
+    }
 }
 
 // Enabling that a source without a cookie does not allow, under 2.0.
@@ -93,53 +82,54 @@ fn lacks_cookie(version: u8, cookie: u64, value: u64) -> bool
     cookie == 0
 }
 
-fn set_enabled(plant: Plant, i: usize, value: u64) -> Done
+fn set_enabled(version: u8, i: usize, source: Source, value: u64) -> Done
     requires { ⌜ i < sourceLimit ⌝ }
-    ensures { λ r. ⌜ quietly plant r ≡ outcomeOf plant (set-enabled plant i value) ⌝ }
+    ensures { λ r. ⌜ ((plant : PlantRecord) → version ≡ plant .versions .interrupt → source ≡ sourceAt plant i →
+        quietly plant r ≡ outcomeOf plant (set-enabled plant i value)) ⌝ }
 {
     if 1 < value {
         return told(Answer::Refused(Refusal::EINVAL));
     }
-    let mut s = plant.source[i];
-    if lacks_cookie(plant.versions.interrupt, s.cookie, value) {
+    if lacks_cookie(version, source.cookie, value) {
         return told(Answer::Refused(Refusal::EINVAL));
     }
+    let mut s = source;
     s.enabled = value as u8;
     done_by(Answer::Done, Change::Source(i, s))
 }
 
-fn set_state(plant: Plant, i: usize, value: u64) -> Done
+fn set_state(i: usize, source: Source, value: u64) -> Done
     requires { ⌜ i < sourceLimit ⌝ }
-    ensures { λ r. ⌜ quietly plant r ≡ outcomeOf plant (set-state plant i value) ⌝ }
+    ensures { λ r. ⌜ ((plant : PlantRecord) → source ≡ sourceAt plant i → quietly plant r ≡ outcomeOf plant (set-state plant i value)) ⌝ }
 {
     if 2 < value {
         return told(Answer::Refused(Refusal::EINVAL));
     }
-    let mut s = plant.source[i];
+    let mut s = source;
     s.state = value as u8;
     done_by(Answer::Done, Change::Source(i, s))
 }
 
 // The cpu has to be one of the guest's own.
-fn set_target(plant: Plant, i: usize, value: u64) -> Done
+fn set_target(cpus: u8, i: usize, source: Source, value: u64) -> Done
     requires { ⌜ i < sourceLimit ⌝ }
-    ensures { λ r. ⌜ quietly plant r ≡ outcomeOf plant (set-target plant i value) ⌝ }
+    ensures { λ r. ⌜ ((plant : PlantRecord) → cpus ≡ plant .cpus → source ≡ sourceAt plant i →
+        quietly plant r ≡ outcomeOf plant (set-target plant i value)) ⌝ }
 {
-    let cpus = plant.cpus as u64;
-    if cpus <= value {
+    if cpus as u64 <= value {
         return told(Answer::Refused(Refusal::ENOCPU));
     }
-    let mut s = plant.source[i];
+    let mut s = source;
     s.target = value as u8;
     done_by(Answer::Done, Change::Source(i, s))
 }
 
 // Cookie 0 disables; 1 to 2,047 are no cookies.
-fn set_cookie(plant: Plant, i: usize, value: u64) -> Done
+fn set_cookie(i: usize, source: Source, value: u64) -> Done
     requires { ⌜ i < sourceLimit ⌝ }
-    ensures { λ r. ⌜ quietly plant r ≡ outcomeOf plant (set-cookie plant i value) ⌝ }
+    ensures { λ r. ⌜ ((plant : PlantRecord) → source ≡ sourceAt plant i → quietly plant r ≡ outcomeOf plant (set-cookie plant i value)) ⌝ }
 {
-    let mut s = plant.source[i];
+    let mut s = source;
     s.cookie = value;
     if value == 0 {
         s.enabled = 0;
@@ -163,29 +153,31 @@ pub fn intr_devino2sysino(plant: Plant, devhandle: u64, devino: u64) -> Answer
     }
 }
 
-// What a call asks of source i.
-fn source_call(plant: Plant, i: usize, value: u64, call: SourceCall) -> Done
+// What a call asks of source i, of any plant that shows this of it.
+fn source_call(version: u8, cpus: u8, i: usize, s: Source, value: u64, call: SourceCall) -> Done
     requires { ⌜ i < sourceLimit ⌝ }
-    ensures { λ r. ⌜ quietly plant r ≡ outcomeOf plant (sourceCall plant i value call) ⌝ }
+    ensures { λ r. ⌜ ((plant : PlantRecord) → Shows plant version cpus i s →
+        quietly plant r ≡ outcomeOf plant (sourceCall plant i value call)) ⌝ }
 {
     match call {
-        SourceCall::GetEnabled => told(get_enabled(plant, i)),
-        SourceCall::SetEnabled => set_enabled(plant, i, value),
-        SourceCall::GetState => told(get_state(plant, i)),
-        SourceCall::SetState => set_state(plant, i, value),
-        SourceCall::GetTarget => told(get_target(plant, i)),
-        SourceCall::SetTarget => set_target(plant, i, value),
+        SourceCall::GetEnabled => told(Answer::One(s.enabled as u64)),
+        SourceCall::SetEnabled => set_enabled(version, i, s, value),
+        SourceCall::GetState => told(Answer::One(s.state as u64)),
+        SourceCall::SetState => set_state(i, s, value),
+        SourceCall::GetTarget => told(Answer::One(s.target as u64)),
+        SourceCall::SetTarget => set_target(cpus, i, s, value),
     }
 }
 
-fn cookie_call(plant: Plant, i: usize, value: u64, call: CookieCall) -> Done
+fn cookie_call(version: u8, cpus: u8, i: usize, s: Source, value: u64, call: CookieCall) -> Done
     requires { ⌜ i < sourceLimit ⌝ }
-    ensures { λ r. ⌜ quietly plant r ≡ outcomeOf plant (cookieCall plant i value call) ⌝ }
+    ensures { λ r. ⌜ ((plant : PlantRecord) → Shows plant version cpus i s →
+        quietly plant r ≡ outcomeOf plant (cookieCall plant i value call)) ⌝ }
 {
     match call {
-        CookieCall::GetCookie => told(get_cookie(plant, i)),
-        CookieCall::SetCookie => set_cookie(plant, i, value),
-        CookieCall::Source(other) => source_call(plant, i, value, other),
+        CookieCall::GetCookie => told(Answer::One(s.cookie)),
+        CookieCall::SetCookie => set_cookie(i, s, value),
+        CookieCall::Source(other) => source_call(version, cpus, i, s, value, other),
     }
 }
 
@@ -199,7 +191,9 @@ pub fn intr(plant: Plant, call: SourceCall, sysino: u64, value: u64) -> Done
         return told(Answer::Refused(Refusal::EINVAL));
     }
     let i = sysino as usize;
-    source_call(plant, i, value, call)
+    let source = plant.source;
+    let s = source[i];
+    source_call(plant.versions.interrupt, plant.cpus, i, s, value, call)
 }
 
 // 0xa7 to 0xae, by devhandle and devino.
@@ -207,13 +201,12 @@ pub fn vintr(plant: Plant, call: CookieCall, devhandle: u64, devino: u64, value:
     requires { ⌜ plant .sources ≤ sourceLimit ⌝ }
     ensures { λ r. ⌜ quietly plant r ≡ outcomeOf plant (vintr plant call devhandle devino value) ⌝ }
 {
-    let found = sysino_of(plant, devhandle, devino);
-    let Found::At(i) = found else {
+    let found = source_named(plant, devhandle, devino);
+    let Named::At(i, s) = found else {
         return told(Answer::Refused(Refusal::EINVAL));
     };
-    let s = plant.source[i];
     if !s.cookies {
         return told(Answer::Refused(Refusal::ENOTSUPPORTED));
     }
-    cookie_call(plant, i, value, call)
+    cookie_call(plant.versions.interrupt, plant.cpus, i, s, value, call)
 }

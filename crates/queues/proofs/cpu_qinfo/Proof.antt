@@ -15,7 +15,7 @@ enum-told : tie.Need-enum-told
 enum-told c = search needs
 
 returns : tie.Need-returns
-returns c = search (refuses, qinfo-no-queue, no-queue)
+returns c = λ plant cpu o. search (refuses, qinfo-no-queue, no-queue)
 
 queue-at-requires : tie.Need-queue-at-requires
 queue-at-requires c κs = search queue-place
@@ -26,14 +26,14 @@ enum-told-2 c = search needs
 enum-known-held : tie.Need-enum-known-held
 enum-known-held c = search needs
 
-cast-t10 : tie.Need-cast-t10
-cast-t10 c = search needs
+cast-t9 : tie.Need-cast-t9
+cast-t9 c = search needs
 
 returns-2 : tie.Need-returns-2
-returns-2 c = search (answers, qinfo-unset, is-queue, queue-index)
+returns-2 c = λ plant cpu o. search (answers, qinfo-unset, is-queue, queue-index)
 
 returns-3 : tie.Need-returns-3
-returns-3 c = search (answers, qinfo-set, is-queue, queue-index)
+returns-3 c = λ plant cpu o. search (answers, qinfo-set, is-queue, queue-index)
 
 pub cpu-qinfo-spec : {M : Type 1} → statement M
 cpu-qinfo-spec =
@@ -46,6 +46,6 @@ cpu-qinfo-spec =
     queue-at-requires
     enum-told-2
     enum-known-held
-    cast-t10
+    cast-t9
     returns-2
     returns-3)

@@ -19,7 +19,7 @@ told-requires : tie.Need-told-requires
 told-requires c κs = search needs
 
 returns : tie.Need-returns
-returns c = search (tells-refusal, head-no-queue, no-queue)
+returns c = λ plant o. search (tells-refusal, head-no-queue, no-queue)
 
 queue-at-requires : tie.Need-queue-at-requires
 queue-at-requires c κs = search queue-place
@@ -34,7 +34,7 @@ told-requires-2 : tie.Need-told-requires-2
 told-requires-2 c κs = search needs
 
 returns-2 : tie.Need-returns-2
-returns-2 c = search (tells-refusal, head-unset, is-queue, queue-index)
+returns-2 c = λ plant o. search (tells-refusal, head-unset, is-queue, queue-index)
 
 head-moves-requires : tie.Need-head-moves-requires
 head-moves-requires c κs =
@@ -42,7 +42,7 @@ head-moves-requires c κs =
     let s = d .before .before .before .before .before in
     let p = d .before .before .before .before .place-of .ensures in
     let e = d .before .before .place .given .1 in
-    sound-there (s .args .plant) (s .args .cpu) (s .args .queue) _ _ _ (s .pre .1) (queue-most _ _ p _ e) (queue-index _ _ p _ e) (d .queue-at .ensures) (c .before .held .given .1)
+    sound-there (s .args .own) (s .args .queue) _ _ _ (s .pre .1) (queue-most _ _ p _ e) (queue-index _ _ p _ e) (d .queue-at .ensures) (c .before .held .given .1)
 
 enum-known-moved : tie.Need-enum-known-moved
 enum-known-moved c = search needs
@@ -57,10 +57,10 @@ held-now-requires : tie.Need-held-now-requires
 held-now-requires c κs = search needs
 
 returns-3 : tie.Need-returns-3
-returns-3 c = search (tells-refusal, head-refused, is-queue, queue-index)
+returns-3 c = λ plant o. search (tells-refusal, head-refused, is-queue, queue-index)
 
 returns-4 : tie.Need-returns-4
-returns-4 c = search (queue-changes, head-done, is-queue, queue-index, queue-place)
+returns-4 c = λ plant o. search (queue-changes, head-done, is-queue, queue-index, queue-place)
 
 pub write-head-spec : {M : Type 1} → statement M
 write-head-spec =

@@ -1,15 +1,8 @@
 -- `raise::raise_at` meets its contract: each return is the rule's case, by the tests on the way.
-use native.Mathlib.Omega.{arith}
 use borrow.Author.Needs.{needs}
-use Rattle.raise.proofs.RaiseLaws.{source-below, raise-stays, raise-disabled, raise-delivers}
+use Rattle.raise.proofs.RaiseLaws.{raise-stays, raise-disabled, raise-delivers}
 use Rattle.raise.proofs.raise_at.Statement.{statement}
 use Rattle.raise.proofs.raise_at.Tie as tie
-
-mul-source : tie.Need-mul-source
-mul-source c = search needs
-
-element-copy-out-source : tie.Need-element-copy-out-source
-element-copy-out-source c = search needs
 
 told-requires : tie.Need-told-requires
 told-requires c κs = search needs
@@ -18,20 +11,15 @@ returns : tie.Need-returns
 returns c = search raise-stays
 
 becomes-requires : tie.Need-becomes-requires
-becomes-requires c κs = search source-below
+becomes-requires c κs = search needs
 
 returns-2 : tie.Need-returns-2
-returns-2 c =
-    let s = c .before .before .before .before .before .before .before in
-    raise-disabled _ _ _ _ (s .pre .1) (s .pre .0) (λ e. omega arith) _ (λ e. omega arith) (c .becomes .ensures)
-
-cast-deliver : tie.Need-cast-deliver
-cast-deliver c = search needs
+returns-2 c = search raise-disabled
 
 deliver-requires : tie.Need-deliver-requires
 deliver-requires c κs =
-    let s = c .before .before .before .before .before .before .before .before in
-    (s .pre .0, (s .pre .1, search raise-delivers))
+    let s = c .before .before .before .before .before .before in
+    (s .pre .0, (s .pre .1 .0, (s .pre .1 .1 .0, (s .pre .1 .1 .1, search raise-delivers))))
 
 same-length : tie.Need-same-length
 same-length c = search needs
@@ -43,13 +31,10 @@ pub raise-at-spec : {M : Type 1} → statement M
 raise-at-spec =
     tie.close
     (tie.spec
-    mul-source
-    element-copy-out-source
     told-requires
     returns
     becomes-requires
     returns-2
-    cast-deliver
     deliver-requires
     same-length
     returns-3)

@@ -14,6 +14,12 @@ told-requires c κs = search needs
 returns : tie.Need-returns
 returns c = search (tells-refusal, intr-past)
 
+mul-s : tie.Need-mul-s
+mul-s c = search needs
+
+array-copy-out-s : tie.Need-array-copy-out-s
+array-copy-out-s c = search needs
+
 source-call-requires : tie.Need-source-call-requires
 source-call-requires c κs = search needs
 
@@ -21,4 +27,13 @@ returns-2 : tie.Need-returns-2
 returns-2 c = search intr-there
 
 pub intr-spec : {M : Type 1} → statement M
-intr-spec = tie.close (tie.spec cast-count told-requires returns source-call-requires returns-2)
+intr-spec =
+    tie.close
+    (tie.spec
+    cast-count
+    told-requires
+    returns
+    mul-s
+    array-copy-out-s
+    source-call-requires
+    returns-2)

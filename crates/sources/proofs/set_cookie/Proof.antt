@@ -5,39 +5,25 @@ use Rattle.sources.proofs.SourceLaws.{cookie-zero, cookie-small, cookie
 use Rattle.sources.proofs.set_cookie.Statement.{statement}
 use Rattle.sources.proofs.set_cookie.Tie as tie
 
-mul-s : tie.Need-mul-s
-mul-s c = search needs
-
-element-copy-out-s : tie.Need-element-copy-out-s
-element-copy-out-s c = search needs
-
 done-by-requires : tie.Need-done-by-requires
 done-by-requires c κs = search needs
 
 returns : tie.Need-returns
-returns c = search (source-changes, cookie-zero)
+returns c = λ plant q. search (source-changes, cookie-zero)
 
 told-requires : tie.Need-told-requires
 told-requires c κs = search needs
 
 returns-2 : tie.Need-returns-2
-returns-2 c = search (tells-refusal, cookie-small)
+returns-2 c = λ plant q. search (tells-refusal, cookie-small)
 
 done-by-requires-2 : tie.Need-done-by-requires-2
 done-by-requires-2 c κs = search needs
 
 returns-3 : tie.Need-returns-3
-returns-3 c = search (source-changes, cookie-done)
+returns-3 c = λ plant q. search (source-changes, cookie-done)
 
 pub set-cookie-spec : {M : Type 1} → statement M
 set-cookie-spec =
     tie.close
-    (tie.spec
-    mul-s
-    element-copy-out-s
-    done-by-requires
-    returns
-    told-requires
-    returns-2
-    done-by-requires-2
-    returns-3)
+    (tie.spec done-by-requires returns told-requires returns-2 done-by-requires-2 returns-3)

@@ -9,13 +9,7 @@ told-requires : tie.Need-told-requires
 told-requires c κs = search needs
 
 returns : tie.Need-returns
-returns c = search (tells-refusal, enabled-past)
-
-mul-s : tie.Need-mul-s
-mul-s c = search needs
-
-element-copy-out-s : tie.Need-element-copy-out-s
-element-copy-out-s c = search needs
+returns c = λ plant v q. search (tells-refusal, enabled-past)
 
 lacks-cookie-requires : tie.Need-lacks-cookie-requires
 lacks-cookie-requires c κs = search needs
@@ -24,7 +18,7 @@ told-requires-2 : tie.Need-told-requires-2
 told-requires-2 c κs = search needs
 
 returns-2 : tie.Need-returns-2
-returns-2 c = search (tells-refusal, enabled-lacks)
+returns-2 c = λ plant v q. search (tells-refusal, enabled-lacks)
 
 cast-s : tie.Need-cast-s
 cast-s c = search needs
@@ -33,7 +27,7 @@ done-by-requires : tie.Need-done-by-requires
 done-by-requires c κs = search needs
 
 returns-3 : tie.Need-returns-3
-returns-3 c = search (source-changes, enabled-done)
+returns-3 c = λ plant v q. search (source-changes, enabled-done)
 
 pub set-enabled-spec : {M : Type 1} → statement M
 set-enabled-spec =
@@ -41,8 +35,6 @@ set-enabled-spec =
     (tie.spec
     told-requires
     returns
-    mul-s
-    element-copy-out-s
     lacks-cookie-requires
     told-requires-2
     returns-2

@@ -9,13 +9,7 @@ told-requires : tie.Need-told-requires
 told-requires c κs = search needs
 
 returns : tie.Need-returns
-returns c = search (tells-refusal, state-past)
-
-mul-s : tie.Need-mul-s
-mul-s c = search needs
-
-element-copy-out-s : tie.Need-element-copy-out-s
-element-copy-out-s c = search needs
+returns c = λ plant q. search (tells-refusal, state-past)
 
 cast-s : tie.Need-cast-s
 cast-s c = search needs
@@ -24,16 +18,7 @@ done-by-requires : tie.Need-done-by-requires
 done-by-requires c κs = search needs
 
 returns-2 : tie.Need-returns-2
-returns-2 c = search (source-changes, state-done)
+returns-2 c = λ plant q. search (source-changes, state-done)
 
 pub set-state-spec : {M : Type 1} → statement M
-set-state-spec =
-    tie.close
-    (tie.spec
-    told-requires
-    returns
-    mul-s
-    element-copy-out-s
-    cast-s
-    done-by-requires
-    returns-2)
+set-state-spec = tie.close (tie.spec told-requires returns cast-s done-by-requires returns-2)

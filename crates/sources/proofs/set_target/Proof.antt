@@ -5,20 +5,11 @@ use Rattle.sources.proofs.SourceLaws.{target-past, target-done}
 use Rattle.sources.proofs.set_target.Statement.{statement}
 use Rattle.sources.proofs.set_target.Tie as tie
 
-cast-cpus : tie.Need-cast-cpus
-cast-cpus c = search needs
-
 told-requires : tie.Need-told-requires
 told-requires c κs = search needs
 
 returns : tie.Need-returns
-returns c = search (tells-refusal, target-past)
-
-mul-s : tie.Need-mul-s
-mul-s c = search needs
-
-element-copy-out-s : tie.Need-element-copy-out-s
-element-copy-out-s c = search needs
+returns c = λ plant k q. search (tells-refusal, target-past)
 
 cast-s : tie.Need-cast-s
 cast-s c = search needs
@@ -27,17 +18,7 @@ done-by-requires : tie.Need-done-by-requires
 done-by-requires c κs = search needs
 
 returns-2 : tie.Need-returns-2
-returns-2 c = search (source-changes, target-done)
+returns-2 c = λ plant k q. search (source-changes, target-done)
 
 pub set-target-spec : {M : Type 1} → statement M
-set-target-spec =
-    tie.close
-    (tie.spec
-    cast-cpus
-    told-requires
-    returns
-    mul-s
-    element-copy-out-s
-    cast-s
-    done-by-requires
-    returns-2)
+set-target-spec = tie.close (tie.spec told-requires returns cast-s done-by-requires returns-2)

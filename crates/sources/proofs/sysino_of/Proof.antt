@@ -1,69 +1,24 @@
--- `sources::sysino_of` meets its contract: a scan for the first source of that name.
-use mathlib.Core.Path.{_≡_}
-use Prim.Native.Nat.{_≤_, _-_}
-use native.Mathlib.Omega.{arith}
-use lib.ListN.{getD}
+-- `sources::sysino_of` meets its contract: what the scan found, without the record.
 use borrow.Author.Needs.{needs}
-use Rattle.rules.specs.declared.Found.{Found}
-use Rattle.rules.specs.Scan.{firstBelow}
-use Rattle.rules.specs.Image.{named}
-use Rattle.rules.specs.Kept.{blankSource}
-use Rattle.rules.specs.Sources.{sysinoOf}
-use Rattle.rules.proofs.Scan.{first-start, first-next, first-end, first-found}
+use Rattle.sources.proofs.SourceLaws.{named-nothing, named-at}
 use Rattle.sources.proofs.sysino_of.Statement.{statement}
 use Rattle.sources.proofs.sysino_of.Tie as tie
 
-abbrev Inv-loop : tie.InvT-loop
-Inv-loop devhandle devino count source i₀ i = (i ≤ count) × (firstBelow i (λ j. named (getD source j blankSource) devhandle devino) ≡ Found.Nothing)
+source-named-requires : tie.Need-source-named-requires
+source-named-requires c κs = search needs
 
-abbrev μ-loop : tie.MeasureT-loop
-μ-loop devhandle devino count source i₀ i = count - i
+enum-told : tie.Need-enum-told
+enum-told c = search needs
 
-cast-count : tie.Need-cast-count Inv-loop μ-loop
-cast-count c = omega arith
+enum-known-found : tie.Need-enum-known-found
+enum-known-found c = search needs
 
-loop-holds : tie.Need-loop-holds Inv-loop μ-loop
-loop-holds c = (omega arith, first-start _)
+returns : tie.Need-returns
+returns c = search named-nothing
 
-mul-s : tie.Need-mul-s Inv-loop μ-loop
-mul-s c = omega arith
-
-array-copy-out-s : tie.Need-array-copy-out-s Inv-loop μ-loop
-array-copy-out-s c = omega arith
-
-is-named-requires : tie.Need-is-named-requires Inv-loop μ-loop
-is-named-requires c κs = search needs
-
-returns : tie.Need-returns Inv-loop μ-loop
-unfolding sysinoOf
-returns c = first-found _ _ _ _ (omega arith) (c .before .before .before .before .loop .inv .1) (c .before .is-named .ensures) (c .if1 .taken)
-
-add-i : tie.Need-add-i Inv-loop μ-loop
-add-i c = omega arith
-
-loop-less : tie.Need-loop-less Inv-loop μ-loop
-loop-less c = omega arith
-
-loop-again : tie.Need-loop-again Inv-loop μ-loop
-loop-again c = (omega arith, first-next _ _ _ (c .before .before .before .before .loop .inv .1) (c .before .is-named .ensures) (c .if1 .left))
-
-returns-2 : tie.Need-returns-2 Inv-loop μ-loop
-unfolding sysinoOf
-returns-2 c = search first-end
+returns-2 : tie.Need-returns-2
+returns-2 c = search named-at
 
 pub sysino-of-spec : {M : Type 1} → statement M
 sysino-of-spec =
-    tie.close
-    (tie.spec
-    Inv-loop
-    μ-loop
-    cast-count
-    loop-holds
-    mul-s
-    array-copy-out-s
-    is-named-requires
-    returns
-    add-i
-    loop-less
-    loop-again
-    returns-2)
+    tie.close (tie.spec source-named-requires enum-told enum-known-found returns returns-2)

@@ -1,6 +1,6 @@
 -- `calls::dispatch::perform` meets its contract: an arm each.
 use borrow.Author.Needs.{needs}
-use mathlib.Core.Path.{refl}
+use mathlib.Core.Path.{refl, sym}
 use Rattle.rules.specs.declared.Function.{Function}
 use Rattle.rules.specs.Calls.{perform}
 use Rattle.plants.proofs.OutcomeLaws.{quiet, quiet-told}
@@ -137,7 +137,7 @@ returns-4 c = perform-as _ _ _ _ _ _ _ _ Function.CpuQconf (c .before .enum-told
 
 returns-5 : tie.Need-returns-5
 unfolding perform
-returns-5 c = perform-as _ _ _ _ _ _ _ _ Function.CpuQinfo (c .before .before .enum-told5 .given .1) (quiet-told _ _ _ _ _ _ (c .told3 .ensures) (c .before .cpu-qinfo .ensures))
+returns-5 c = perform-as _ _ _ _ _ _ _ _ Function.CpuQinfo (c .before .before .enum-told5 .given .1) (quiet-told _ _ _ _ _ _ (c .told3 .ensures) (c .before .cpu-qinfo .ensures _ _ (sym (search needs))))
 
 returns-6 : tie.Need-returns-6
 unfolding perform
@@ -177,11 +177,11 @@ returns-11 c = perform-as _ _ _ _ _ _ _ _ Function.MemSync (c .before .enum-told
 
 returns-12 : tie.Need-returns-12
 unfolding perform
-returns-12 c = perform-as _ _ _ _ _ _ _ _ Function.MmustatConf (c .before .enum-told12 .given .1) (quiet _ _ _ _ _ (c .mmustat-conf .ensures))
+returns-12 c = perform-as _ _ _ _ _ _ _ _ Function.MmustatConf (c .before .enum-told12 .given .1) (quiet _ _ _ _ _ (c .mmustat-conf .ensures _ (sym (search needs))))
 
 returns-13 : tie.Need-returns-13
 unfolding perform
-returns-13 c = perform-as _ _ _ _ _ _ _ _ Function.MmustatInfo (c .before .before .enum-told13 .given .1) (quiet-told _ _ _ _ _ _ (c .told5 .ensures) (c .before .mmustat-info .ensures))
+returns-13 c = perform-as _ _ _ _ _ _ _ _ Function.MmustatInfo (c .before .before .enum-told13 .given .1) (quiet-told _ _ _ _ _ _ (c .told5 .ensures) (c .before .mmustat-info .ensures _ _ (sym (search needs))))
 
 returns-14 : tie.Need-returns-14
 unfolding perform

@@ -1,5 +1,6 @@
 -- `calls::plant::plant_call` meets its contract.
 use borrow.Author.Needs.{needs}
+use Rattle.calls.proofs.OwnLaws.{own-call}
 use Rattle.calls.proofs.PlantLaws.{call-nobody, call-cpu}
 use Rattle.calls.proofs.plant.plant_call.Statement.{statement}
 use Rattle.calls.proofs.plant.plant_call.Tie as tie
@@ -14,7 +15,7 @@ returns : tie.Need-returns
 returns c = call-nobody _ _ _ _ _ _ (c .before .if1 .taken) (c .told .ensures)
 
 call-requires : tie.Need-call-requires
-call-requires c κs = search needs
+call-requires c κs = (search needs, (search needs, search own-call))
 
 same-length : tie.Need-same-length
 same-length c = search needs

@@ -1,6 +1,7 @@
 -- `calls::plant::plant_event` meets its contract: a case of the event each.
 use borrow.Author.Needs.{needs}
 use Rattle.rules.specs.Host.{plantRule}
+use Rattle.calls.proofs.OwnLaws.{own-as}
 use Rattle.calls.proofs.PlantLaws.{event-as}
 use Rattle.calls.proofs.plant.plant_event.Statement.{statement}
 use Rattle.calls.proofs.plant.plant_event.Tie as tie
@@ -9,19 +10,19 @@ enum-known-event : tie.Need-enum-known-event
 enum-known-event c = search needs
 
 plant-call-requires : tie.Need-plant-call-requires
-plant-call-requires c κs = search needs
+plant-call-requires c κs = (search needs, search own-as)
 
 enum-known-event-2 : tie.Need-enum-known-event-2
 enum-known-event-2 c = search needs
 
 plant-head-requires : tie.Need-plant-head-requires
-plant-head-requires c κs = search needs
+plant-head-requires c κs = (search needs, search own-as)
 
 enum-known-event-3 : tie.Need-enum-known-event-3
 enum-known-event-3 c = search needs
 
 plant-raise-requires : tie.Need-plant-raise-requires
-plant-raise-requires c κs = search needs
+plant-raise-requires c κs = (search needs, search own-as)
 
 enum-known-event-4 : tie.Need-enum-known-event-4
 enum-known-event-4 c = search needs

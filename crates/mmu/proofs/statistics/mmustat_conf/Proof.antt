@@ -17,20 +17,14 @@ done-by-requires c κs = search needs
 enum-told : tie.Need-enum-told
 enum-told c = search needs
 
-mul-before : tie.Need-mul-before
-mul-before c = search needs
-
-element-copy-out-before : tie.Need-element-copy-out-before
-element-copy-out-before c = search needs
-
 done-by-requires-2 : tie.Need-done-by-requires-2
 done-by-requires-2 c κs = search needs
 
 returns : tie.Need-returns
-returns c = search (statistics-changes, conf-refused)
+returns c = λ plant o. search (statistics-changes, conf-refused)
 
 returns-2 : tie.Need-returns-2
-returns-2 c = search (statistics-changes, conf-set)
+returns-2 c = λ plant o. search (statistics-changes, conf-set)
 
 pub mmustat-conf-spec : {M : Type 1} → statement M
 mmustat-conf-spec =
@@ -40,8 +34,6 @@ mmustat-conf-spec =
     enum-known-verdict
     done-by-requires
     enum-told
-    mul-before
-    element-copy-out-before
     done-by-requires-2
     returns
     returns-2)
