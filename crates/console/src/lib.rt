@@ -14,15 +14,15 @@ use stream::Got;
 
 // What is read at once, the guests' memory, and the room for answers. The first and the last could be any other numbers: what does not
 // fit is answered in several turns.
-pub const INPUT: usize = 2730;
+pub const INPUT: usize = 16384;
 
 pub const MEMORY: usize = 32768;
 
-pub const ANSWERS: usize = 262144;
+pub const ANSWERS: usize = 1572864;
 
 // The `ensures` gives only the length, which lending it as a slice needs.
 pub fn room() -> [u8; ANSWERS]
-    ensures { λ r. ⌜ 262144 ≡ length r ⌝ }
+    ensures { λ r. ⌜ 1572864 ≡ length r ⌝ }
 {
     [0; ANSWERS]
 }

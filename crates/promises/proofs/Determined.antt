@@ -67,13 +67,13 @@ numbers-of-determined κs a r s ws vs p q = p ∙ sym q
 pub loading-numbers-determined : (κs : _) (a : _) (r s : _) (ws vs : _) → loading-numbers-reads.Post κs a r ws → loading-numbers-reads.Post κs a s vs → r ≡ s
 loading-numbers-determined κs a r s ws vs p q = p ∙ sym q
 
-pub put-answer-determined : (κs : _) (a : _) (r s : _) (ws vs : _) → put-answer-reads.Post κs a r ws → put-answer-reads.Post κs a s vs → (r ≡ s) × (now (ws .1 .0) ≡ now (vs .1 .0))
+pub put-answer-determined : (κs : _) (a : _) (r s : _) (ws vs : _) → put-answer-reads.Post κs a r ws → put-answer-reads.Post κs a s vs → (r ≡ s) × (now (ws .1 .1 .0) ≡ now (vs .1 .1 .0))
 put-answer-determined κs a r s ws vs p q = (p .0 ∙ sym (q .0), p .1 ∙ sym (q .1))
 
-pub put-loading-determined : (κs : _) (a : _) (r s : _) (ws vs : _) → put-loading-reads.Post κs a r ws → put-loading-reads.Post κs a s vs → (r ≡ s) × (now (ws .1 .0) ≡ now (vs .1 .0))
+pub put-loading-determined : (κs : _) (a : _) (r s : _) (ws vs : _) → put-loading-reads.Post κs a r ws → put-loading-reads.Post κs a s vs → (r ≡ s) × (now (ws .1 .1 .0) ≡ now (vs .1 .1 .0))
 put-loading-determined κs a r s ws vs p q = (p .0 ∙ sym (q .0), p .1 ∙ sym (q .1))
 
-pub put-bad-determined : (κs : _) (a : _) (r s : _) (ws vs : _) → put-bad-reads.Post κs a r ws → put-bad-reads.Post κs a s vs → (r ≡ s) × (now (ws .0) ≡ now (vs .0))
+pub put-bad-determined : (κs : _) (a : _) (r s : _) (ws vs : _) → put-bad-reads.Post κs a r ws → put-bad-reads.Post κs a s vs → (r ≡ s) × (now (ws .1 .0) ≡ now (vs .1 .0))
 put-bad-determined κs a r s ws vs p q = (p .0 ∙ sym (q .0), p .1 ∙ sym (q .1))
 
 -- session: what is kept between two pieces of input, the bytes of memory, and the bytes of the answers

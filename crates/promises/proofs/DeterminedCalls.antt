@@ -14,7 +14,10 @@ use Rattle.plants.specs.declared.change.Done.{Done}
 use Rattle.plants.specs.Changes.{plantAfter}
 use Rattle.plants.specs.Done.{quietly, saying}
 use Rattle.plants.specs.Follows.{Follows}
+use Rattle.plants.proofs.all_disabled.Reads as all-disabled-reads
 use Rattle.plants.proofs.at_tail.Reads as at-tail-reads
+use Rattle.plants.proofs.cpu_after.Reads as cpu-after-reads
+use Rattle.plants.proofs.cpu_at_tail.Reads as cpu-at-tail-reads
 use Rattle.plants.proofs.told.Reads as told-reads
 use Rattle.plants.proofs.done_by.Reads as done-by-reads
 use Rattle.plants.proofs.plant_after.Reads as plant-after-reads
@@ -62,6 +65,15 @@ plantOf own = record { versions = noVersions; cpus = 1; cpu = own ∷ []; source
 -- plants: what the calls share: what they give back, the record after, and an entry in a ring
 pub at-tail-determined : (κs : _) (a : _) (r s : _) (ws vs : _) → at-tail-reads.Post κs a r ws → at-tail-reads.Post κs a s vs → r ≡ s
 at-tail-determined κs a r s ws vs p q = p ∙ sym q
+
+pub all-disabled-determined : (κs : _) (a : _) (r s : _) (ws vs : _) → all-disabled-reads.Post κs a r ws → all-disabled-reads.Post κs a s vs → r ≡ s
+all-disabled-determined κs a r s ws vs p q = p ∙ sym q
+
+pub cpu-after-determined : (κs : _) (a : _) (r s : _) (ws vs : _) → cpu-after-reads.Post κs a r ws → cpu-after-reads.Post κs a s vs → r ≡ s
+cpu-after-determined κs a r s ws vs p q = p ∙ sym q
+
+pub cpu-at-tail-determined : (κs : _) (a : _) (r s : _) (ws vs : _) → cpu-at-tail-reads.Post κs a r ws → cpu-at-tail-reads.Post κs a s vs → r ≡ s
+cpu-at-tail-determined κs a r s ws vs p q = p ∙ sym q
 
 pub told-determined : (κs : _) (a : _) (r s : _) (ws vs : _) → told-reads.Post κs a r ws → told-reads.Post κs a s vs → r ≡ s
 told-determined κs a r s ws vs p q = p ∙ sym q

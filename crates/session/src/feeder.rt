@@ -104,7 +104,9 @@ pub fn feed(feeder: Feeder, mem: &mut [u8], piece: &[u8], out: &mut [u8]) -> Fed
                     plant = guest.plant;
                     continue;
                 }
-                let done = calls::plant_event(extents, plant, mem, event);
+                let c = calls::cpu_of(plant, event);
+                let own = plant.cpu[c];
+                let done = calls::plant_event(extents, plant, own, mem, event);
                 let change = done.change;
                 match change {
                     Change::Nothing => {}
