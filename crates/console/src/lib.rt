@@ -18,11 +18,11 @@ pub const INPUT: usize = 16384;
 
 pub const MEMORY: usize = 32768;
 
-pub const ANSWERS: usize = 1572864;
+pub const ANSWERS: usize = 262144;
 
 // The `ensures` gives only the length, which lending it as a slice needs.
 pub fn room() -> [u8; ANSWERS]
-    ensures { λ r. ⌜ 1572864 ≡ length r ⌝ }
+    ensures { λ r. ⌜ 262144 ≡ length r ⌝ }
 {
     [0; ANSWERS]
 }

@@ -16,6 +16,7 @@ use Rattle.session.specs.declared.feeder.Fed.{Fed}
 use Rattle.session.specs.declared.feeder.Feeder.{Feeder}
 use Rattle.session.specs.Feeding.{Progress, ended, pushed, next, fed, room, taken-up, feedOf, Feeds, unprinted, AllFed, lineLimit}
 use Rattle.session.specs.Pieces.{kept}
+use Rattle.session.proofs.Fits.{takes-most, takes-all, takes-some}
 
 -- A feeder that has printed something does what it would have done without.
 abbrev pub prefixed : List ℕ → Progress → Progress
@@ -74,26 +75,26 @@ fed-unprinted q bs =
     ap unprinted (sym (fed-prefixed bs (q .text) (unprinted q)) ∙ ap (λ (x : Progress). fed x bs) same)
 
 -- what a feed leaves of a piece, fed to the feeder that it gives, comes to what the whole piece comes to
-module _ (feeder : Feeder) (memory piece out : List ℕ) (r : Fed) (m w : List ℕ) (f : Feeds (feedOf feeder memory piece out) (room piece out) out r m w) where
+module _ (feeder : Feeder) (memory piece out : List ℕ) (r : Fed) (m w : List ℕ) (f : Feeds (feedOf feeder memory piece out) (room feeder memory piece out) out r m w) where
   abbrev part : Progress
-  part = fed (taken-up feeder memory) (take (room piece out) piece)
+  part = fed (taken-up feeder memory) (take (room feeder memory piece out) piece)
 
   on-from : taken-up (r .feeder) m ≡ unprinted part
   unfolding feedOf
   on-from =
-      let few : part .held ≤ lineLimit = fed-held (take (room piece out) piece) (taken-up feeder memory) (omega arith) in
+      let few : part .held ≤ lineLimit = fed-held (take (room feeder memory piece out) piece) (taken-up feeder memory) (omega arith) in
       let e : min (r .feeder .held) lineLimit ≡ part .held = omega (arith, f .held) in
       λ i. record { session = record { tables = f .tables i; memory = f .memory i }; line = f .line i; held = e i; text = [] }
 
   pub fed-on : unprinted (fed (taken-up (r .feeder) m) (drop (r .taken) piece)) ≡ unprinted (fed (taken-up feeder memory) piece)
   fed-on =
       rw (on-from, f .taken)
-      (fed-unprinted part (drop (room piece out) piece)
-      ∙ ap unprinted (sym (fed-append (take (room piece out) piece) (drop (room piece out) piece) (taken-up feeder memory)) ∙ ap (fed (taken-up feeder memory)) (take-append-drop (room piece out) piece)))
+      (fed-unprinted part (drop (room feeder memory piece out) piece)
+      ∙ ap unprinted (sym (fed-append (take (room feeder memory piece out) piece) (drop (room feeder memory piece out) piece) (taken-up feeder memory)) ∙ ap (fed (taken-up feeder memory)) (take-append-drop (room feeder memory piece out) piece)))
 
 -- what a feed leaves of what it is lent
 abbrev FedOf : Feeder → List ℕ → List ℕ → Fed → List ℕ → List ℕ → List ℕ → Type 0
-FedOf feeder memory out r m w left = Feeds (feedOf feeder memory left out) (room left out) out r m w
+FedOf feeder memory out r m w left = Feeds (feedOf feeder memory left out) (room feeder memory left out) out r m w
 
 -- a piece of which `from` bytes have been fed, and then some more. What is left is lent as a part of the piece that has its length.
 module _ (whole : Progress) (piece : List ℕ) (from : ℕ) (feeder : Feeder) (memory : List ℕ) (rest : unprinted (fed (taken-up feeder memory) (drop from piece)) ≡ whole)
@@ -108,10 +109,12 @@ module _ (whole : Progress) (piece : List ℕ) (from : ℕ) (feeder : Feeder) (m
   more-fed = ap (λ (bs : List ℕ). unprinted (fed (taken-up (r .feeder) m) bs)) (sym (drop-drop (r .taken) from piece)) ∙ fed-on feeder memory (drop from piece) out r m w fed-left ∙ rest
 
   pub more-within : from ≤ length piece → from + r .taken ≤ length piece
-  more-within h = omega (arith, fed-left .taken, length-drop from piece)
+  more-within h = omega (arith, fed-left .taken, takes-most (length out) (drop from piece) (taken-up feeder memory), length-drop from piece)
 
   pub more-taken : from < length piece → 96 ≤ length out → 0 < r .taken
-  more-taken h l = omega (arith, fed-left .taken, length-drop from piece)
+  more-taken h l =
+      let some = takes-some (length out) (drop from piece) (taken-up feeder memory) (omega (arith, length-drop from piece)) (omega arith) in
+      omega (arith, fed-left .taken, some)
 
 -- a piece of which nothing is left has been fed whole
 pub none-left : (feeder after : Feeder) (memory memory′ piece : List ℕ) (from : ℕ) → length piece ≤ from
@@ -127,8 +130,8 @@ fed-behind feeder after memory memory′ part behind e =
 
 -- the end of a line, by itself
 pub end-fed : (feeder : Feeder) (memory out : List ℕ) (r : Fed) (m w : List ℕ) → 96 ≤ length out
-    → Feeds (feedOf feeder memory (lineFeed ∷ []) out) (room (lineFeed ∷ []) out) out r m w → AllFed feeder memory (lineFeed ∷ []) (r .feeder) m
-end-fed feeder memory out r m w l f = none-left feeder (r .feeder) memory m (lineFeed ∷ []) (r .taken) (omega (arith, f .taken)) (fed-on feeder memory (lineFeed ∷ []) out r m w f)
+    → Feeds (feedOf feeder memory (lineFeed ∷ []) out) (room feeder memory (lineFeed ∷ []) out) out r m w → AllFed feeder memory (lineFeed ∷ []) (r .feeder) m
+end-fed feeder memory out r m w l f = none-left feeder (r .feeder) memory m (lineFeed ∷ []) (r .taken) (omega (arith, f .taken, takes-all (length out) (lineFeed ∷ []) (taken-up feeder memory) (omega arith))) (fed-on feeder memory (lineFeed ∷ []) out r m w f)
 
 -- a piece in parts: what stands from a place on is a part and what stands behind it
 pub step-fed : (whole : Progress) (piece part : List ℕ) (from to : ℕ) (feeder after : Feeder) (memory memory′ : List ℕ) → unprinted (fed (taken-up feeder memory) (drop from piece)) ≡ whole

@@ -14,6 +14,7 @@ use Rattle.rules.specs.Session.{Printed, begin, answered, linesFrom, printed, o
 use Rattle.session.specs.declared.feeder.Feeder.{Feeder}
 use Rattle.session.specs.Feeding.{Progress, ended, pushed, next, fed, room, taken-up, feedOf, atFirst, ending, unprinted, lineLimit}
 use Rattle.session.specs.Pieces.{kept, inPieces, joinedUp, Roomy}
+use Rattle.session.proofs.Fits.{takes-all}
 use Rattle.session.proofs.InParts.{prefixed, fed-prefixed, fed-append, fed-held, taken-again}
 
 -- what is cut off a line that is too long is not missed
@@ -124,7 +125,8 @@ rest-prints (b ∷ bs) p line h = step-prints b bs p line h (λ q l k. rest-prin
 -- a piece that has room is taken whole
 taken-whole : (feeder : Feeder) (memory piece out : List ℕ) → 96 * length piece ≤ length out → feedOf feeder memory piece out ≡ fed (taken-up feeder memory) piece
 unfolding feedOf
-taken-whole feeder memory piece out r = ap (fed (taken-up feeder memory)) (take-all (room piece out) piece (omega arith))
+taken-whole feeder memory piece out r =
+    ap (fed (taken-up feeder memory)) (take-all (room feeder memory piece out) piece (omega (arith, takes-all (length out) piece (taken-up feeder memory) (omega arith))))
 
 ending-short : (n : ℕ) → length (ending n) ≤ 1
 unfolding ending

@@ -1,8 +1,8 @@
 -- Input in pieces: what a piece gives, and what is kept for the next one.
 use mathlib.Core.Path.{_≡_}
 use mathlib.Core.List.{List, [], _∷_, _++_}
-use Prim.Native.Nat.{ℕ, zero, suc, _/_, min}
-use lib.Dec.{eqb, ltb}
+use Prim.Native.Nat.{ℕ, zero, suc, _+_, min}
+use lib.Dec.{eqb, leb, ltb}
 use lib.ListN.{length, replicate, set, take}
 use lib.Seq.{sets}
 use Rattle.rules.specs.Kept.{noGuests}
@@ -41,13 +41,18 @@ unfoldable pub fed : Progress → List ℕ → Progress
 fed p [] = p
 fed p (b ∷ bs) = fed (next p b) bs
 
--- how many bytes of a piece are taken: as many as the answers' buffer has room for, at 96 bytes an answer
-abbrev pub room : List ℕ → List ℕ → ℕ
-room piece out = min (length piece) (length out / 96)
-
 -- a piece that is fed to a session
 abbrev pub taken-up : Feeder → List ℕ → Progress
 taken-up feeder memory = record { session = record { tables = feeder .tables; memory = memory }; line = feeder .line; held = min (feeder .held) lineLimit; text = [] }
+
+-- how many bytes of a piece are taken: those for which an answers' buffer of that size has room, as each can end a line and an
+-- answer has at most 96 bytes
+unfoldable pub takes : ℕ → Progress → List ℕ → ℕ
+takes size p [] = 0
+takes size p (b ∷ bs) = if leb (length (p .text) + 96) size then suc (takes size (next p b) bs) else 0
+
+abbrev pub room : Feeder → List ℕ → List ℕ → List ℕ → ℕ
+room feeder memory piece out = takes (length out) (taken-up feeder memory) piece
 
 -- the same but for what was printed: all that the next byte finds
 abbrev pub unprinted : Progress → Progress
@@ -58,7 +63,7 @@ abbrev pub AllFed : Feeder → List ℕ → List ℕ → Feeder → List ℕ →
 AllFed feeder memory piece after memory′ = taken-up after memory′ ≡ unprinted (fed (taken-up feeder memory) piece)
 
 unfoldable pub feedOf : Feeder → List ℕ → List ℕ → List ℕ → Progress
-feedOf feeder memory piece out = fed (taken-up feeder memory) (take (room piece out) piece)
+feedOf feeder memory piece out = fed (taken-up feeder memory) (take (room feeder memory piece out) piece)
 
 -- "starts with no guest"
 unfoldable pub atFirst : Feeder

@@ -47,14 +47,14 @@ pub fn begin() -> Feeder
     }
 }
 
-// Takes as much of the piece as there is room for answers: any byte can end a line, and an answer has at most REPLY bytes.
+// Takes bytes of the piece while there is room for one more answer: any byte can end a line, and an answer has at most REPLY bytes.
 // The door is looked at once, and again after each image: no event changes what it comes to.
 // The plant of guest g, who was asked last, is held apart from the tables, since a record can be changed in place only where it is a
 // variable of its own; it is put back for another guest and at the end. What a line asks for is seen from the tables as they are,
 // since no event changes who owns a source.
 pub fn feed(feeder: Feeder, mem: &mut [u8], piece: &[u8], out: &mut [u8]) -> Fed
     ensures { λ r. ⌜ Feeds (feedOf feeder (now (mem .entry)) (now (piece .entry)) (now (out .entry)))
-        (room (now (piece .entry)) (now (out .entry)))
+        (room feeder (now (mem .entry)) (now (piece .entry)) (now (out .entry)))
         (now (out .entry)) r (now (mem .exit)) (now (out .exit)) ⌝ }
 {
     let mut tables = feeder.tables;
@@ -65,10 +65,9 @@ pub fn feed(feeder: Feeder, mem: &mut [u8], piece: &[u8], out: &mut [u8]) -> Fed
     let first = tables.guest[0];
     let mut extents = first.extents;
     let mut plant = first.plant;
-    let n = least(piece.len(), out.len() / REPLY);
     let mut at = 0;
     let mut i = 0;
-    while i < n {
+    while (i < piece.len()) & (REPLY <= out.len() - at) {
         let b = piece[i];
         if b != b'\n' {
             if held < LINE {
@@ -162,7 +161,7 @@ pub fn feed(feeder: Feeder, mem: &mut [u8], piece: &[u8], out: &mut [u8]) -> Fed
     tables.guest[g] = last;
     Fed {
         feeder: Feeder { tables, line, held },
-        taken: n,
+        taken: i,
         written: at,
     }
 }
@@ -170,7 +169,7 @@ pub fn feed(feeder: Feeder, mem: &mut [u8], piece: &[u8], out: &mut [u8]) -> Fed
 // The end of the input ends a line that has been begun.
 pub fn finish(feeder: Feeder, mem: &mut [u8], out: &mut [u8]) -> Fed
     ensures { λ r. ⌜ Feeds (feedOf feeder (now (mem .entry)) (ending (feeder .held)) (now (out .entry)))
-        (room (ending (feeder .held)) (now (out .entry)))
+        (room feeder (now (mem .entry)) (ending (feeder .held)) (now (out .entry)))
         (now (out .entry)) r (now (mem .exit)) (now (out .exit)) ⌝ }
 {
     if feeder.held == 0 {
