@@ -36,7 +36,9 @@ feed-requires : tie.Need-feed-requires Inv-loop μ-loop
 feed-requires c κs = search needs
 
 add-from : tie.Need-add-from Inv-loop μ-loop
-add-from c = omega arith
+add-from c =
+    let l = c .before .before .before .before .before .before .before .before .before .before .before .loop in
+    omega (arith, more-within _ _ _ _ _ (l .inv .3) _ _ _ _ (c .before .before .before .before .before .before .feed .ensures) (l .inv .0))
 
 slice-reshare-prefix-write-text : tie.Need-slice-reshare-prefix-write-text Inv-loop μ-loop
 slice-reshare-prefix-write-text c = written-fits _ _ _ _ _ _ _ _ (c .before .before .before .before .before .before .feed .ensures)
@@ -57,7 +59,11 @@ returns : tie.Need-returns Inv-loop μ-loop
 returns c = λ e. absurd (let z : _≡_ {A = ℕ} 0 1 = cc in omega arith)
 
 loop-less : tie.Need-loop-less Inv-loop μ-loop
-loop-less c = omega arith
+loop-less c =
+    let l = c .before .before .before .before .before .before .before .before .before .before .before .before .before .before .loop in
+    let room = c .before .before .before .before .before .before .before .before .before .before .before .before .before .before .before .before .before .before .pre in
+    let some = more-taken _ _ _ _ _ (l .inv .3) _ _ _ _ (c .before .before .before .before .before .before .before .before .before .feed .ensures) (c .before .before .before .before .before .before .before .before .before .before .before .before .before .loop-test .taken) (omega (arith, room, l .inv .2)) in
+    omega (arith, some, more-within _ _ _ _ _ (l .inv .3) _ _ _ _ (c .before .before .before .before .before .before .before .before .before .feed .ensures) (l .inv .0))
 
 loop-again : tie.Need-loop-again Inv-loop μ-loop
 loop-again c = (

@@ -80,15 +80,6 @@ loop-holds c =
       put-in _ _ _ _ _ _ _ _ _ _ _ (feeding-start _ _ _ _ _ _),
     )
 
-sub-loop : tie.Need-sub-loop Inv-loop2 μ-loop2 Inv-loop μ-loop
-sub-loop c = omega (arith, c .loop .inv .0 .printed, c .loop .inv .0 .out-long)
-
-shared-slice-read-b : tie.Need-shared-slice-read-b Inv-loop2 μ-loop2 Inv-loop μ-loop
-shared-slice-read-b c = omega (arith, on (c .before) .0)
-
-add-i : tie.Need-add-i Inv-loop2 μ-loop2 Inv-loop μ-loop
-add-i c = omega (arith, on (c .before .before .before) .0)
-
 loop-less : tie.Need-loop-less Inv-loop2 μ-loop2 Inv-loop μ-loop
 loop-less c =
     let l = c .before .before .before .before .loop in
@@ -106,23 +97,8 @@ loop-again c =
 slice-aggregate-ask : tie.Need-slice-aggregate-ask Inv-loop2 μ-loop2 Inv-loop μ-loop
 slice-aggregate-ask c = let l = c .before .before .before .before .loop in line-taken _ _ _ _ _ _ _ _ _ _ _ (l .inv .0) (l .inv .2)
 
-ask-requires : tie.Need-ask-requires Inv-loop2 μ-loop2 Inv-loop μ-loop
-ask-requires c κs = right-keeps _ _ _ (c .before .before .before .before .loop .inv .1 .as-is)
-
-put-reply-requires : tie.Need-put-reply-requires Inv-loop2 μ-loop2 Inv-loop μ-loop
-put-reply-requires c κs = on (c .before .before .before .before .before .before .before .before) .1
-
 slice-aggregate-load-line : tie.Need-slice-aggregate-load-line Inv-loop2 μ-loop2 Inv-loop μ-loop
 slice-aggregate-load-line c = let l = c .before .before .before .before .before .before .before .before .loop in line-taken _ _ _ _ _ _ _ _ _ _ _ (l .inv .0) (l .inv .2)
-
-put-reply-requires-2 : tie.Need-put-reply-requires-2 Inv-loop2 μ-loop2 Inv-loop μ-loop
-put-reply-requires-2 c κs = on (c .before .before .before .before .before .before .before .before .before .before .before .before .before .before) .1
-
-mul-guest : tie.Need-mul-guest Inv-loop2 μ-loop2 Inv-loop μ-loop
-mul-guest c = omega (arith, below (c .before .before .before))
-
-element-copy-out-guest : tie.Need-element-copy-out-guest Inv-loop2 μ-loop2 Inv-loop μ-loop
-element-copy-out-guest c = omega (arith, below (c .before .before .before))
 
 loop-less-2 : tie.Need-loop-less-2 Inv-loop2 μ-loop2 Inv-loop μ-loop
 loop-less-2 c =
@@ -134,37 +110,10 @@ loop-less-2 c =
 loop-again-2 : tie.Need-loop-again-2 Inv-loop2 μ-loop2 Inv-loop μ-loop
 loop-again-2 c = let l = c .before .before .before .before .before .before .before .before .before .before .before .before .before .loop in (l .inv .0, reseats _ _ _ _ _ _ (l .inv .1) _ (below (c .before .before .before .before .before .before)), put-in _ _ _ _ _ _ _ _ _ _ _ (l .inv .2))
 
-cpu-of-requires : tie.Need-cpu-of-requires Inv-loop2 μ-loop2 Inv-loop μ-loop
-cpu-of-requires c κs = sound-here c .sources
-
-mul-own : tie.Need-mul-own Inv-loop2 μ-loop2 Inv-loop μ-loop
-mul-own c = omega (arith, own-below _ _ _ (c .cpu-of .ensures))
-
-element-copy-out-own : tie.Need-element-copy-out-own Inv-loop2 μ-loop2 Inv-loop μ-loop
-element-copy-out-own c = omega (arith, own-below _ _ _ (c .cpu-of .ensures))
-
-plant-event-requires : tie.Need-plant-event-requires Inv-loop2 μ-loop2 Inv-loop μ-loop
-plant-event-requires c κs = (sound-here (c .before .before .before), own-taken _ _ _ (c .before .before .cpu-of .ensures))
-
-cast-cpus : tie.Need-cast-cpus Inv-loop2 μ-loop2 Inv-loop μ-loop
-cast-cpus c = omega (arith, sound-here (c .before .before .before .before .before .before .before .before .before) .cpus)
-
-loop2-holds : tie.Need-loop2-holds Inv-loop2 μ-loop2 Inv-loop μ-loop
-loop2-holds c = (omega arith, sound-here (c .before .before .before .before .before .before .before .before .before) .cpus, tails-none (c .before .before .before .before .before .before .before .before .before .before .before .before .before .before .before .before .before .before .loop .plant) (c .before .before .before .before .before .plant-event .result .tails))
-
 loop2-again : tie.Need-loop2-again Inv-loop2 μ-loop2 Inv-loop μ-loop
 loop2-again c =
     let l = c .before .before .before .loop2 in
     (omega arith, l .inv .1, tails-next (c .before .before .before .before .before .before .before .before .before .before .before .before .before .before .before .before .before .before .before .before .before .before .loop .plant) (c .before .before .before .before .before .before .before .before .before .plant-event .result .tails) (l .plant) (l .k) _ (l .inv .2) (c .cpu-at-tail .ensures))
-
-put-reply-requires-3 : tie.Need-put-reply-requires-3 Inv-loop2 μ-loop2 Inv-loop μ-loop
-put-reply-requires-3 c κs = on (c .before .before .before .before .before .before .before .before .before .before .before .before .before .before .before .before) .1
-
-add-i-2 : tie.Need-add-i-2 Inv-loop2 μ-loop2 Inv-loop μ-loop
-add-i-2 c = omega (arith, on (c .before .before .before .before .before) .0)
-
-loop-less-3 : tie.Need-loop-less-3 Inv-loop2 μ-loop2 Inv-loop μ-loop
-loop-less-3 c = omega (arith, on (c .before .before .before .before .before) .0, apart-most (asked (c .match .tables) (c .match .door) (parse (take 0 (c .before .before .before .before .before .before .loop .line)))) (c .match .g))
 
 loop-again-3 : tie.Need-loop-again-3 Inv-loop2 μ-loop2 Inv-loop μ-loop
 loop-again-3 c =
@@ -209,38 +158,38 @@ feed-spec =
     (λ c κs. search needs)
     (λ c. omega arith)
     loop-holds
-    sub-loop
-    shared-slice-read-b
+    (λ c. omega (arith, c .loop .inv .0 .printed, c .loop .inv .0 .out-long))
+    (λ c. omega (arith, on (c .before) .0))
     (λ c. omega arith)
     (λ c. omega arith)
-    add-i
+    (λ c. omega (arith, on (c .before .before .before) .0))
     loop-less
     loop-again
     (λ c. omega arith)
     slice-aggregate-ask
-    ask-requires
+    (λ c κs. right-keeps _ _ _ (c .before .before .before .before .loop .inv .1 .as-is))
     (λ c. search needs)
-    put-reply-requires
+    (λ c κs. on (c .before .before .before .before .before .before .before .before) .1)
     (λ c. search needs)
     (λ c. omega arith)
     slice-aggregate-load-line
     (λ c κs. search needs)
     (λ c κs. search needs)
     (λ c. omega arith)
-    put-reply-requires-2
+    (λ c κs. on (c .before .before .before .before .before .before .before .before .before .before .before .before .before .before) .1)
     (λ c. search needs)
     (λ c. omega arith)
     (λ c. omega arith)
     (λ c. omega arith)
     (λ c. omega arith)
-    mul-guest
-    element-copy-out-guest
+    (λ c. omega (arith, below (c .before .before .before)))
+    (λ c. omega (arith, below (c .before .before .before)))
     loop-less-2
     loop-again-2
-    cpu-of-requires
-    mul-own
-    element-copy-out-own
-    plant-event-requires
+    (λ c κs. sound-here c .sources)
+    (λ c. omega (arith, own-below _ _ _ (c .cpu-of .ensures)))
+    (λ c. omega (arith, own-below _ _ _ (c .cpu-of .ensures)))
+    (λ c κs. (sound-here (c .before .before .before), own-taken _ _ _ (c .before .before .cpu-of .ensures)))
     (λ c. search needs)
     (λ c. search needs)
     (λ c. search needs)
@@ -263,8 +212,8 @@ feed-spec =
     (λ c. omega arith)
     (λ c. omega arith)
     (λ c. search needs)
-    cast-cpus
-    loop2-holds
+    (λ c. omega (arith, sound-here (c .before .before .before .before .before .before .before .before .before) .cpus))
+    (λ c. (omega arith, sound-here (c .before .before .before .before .before .before .before .before .before) .cpus, tails-none (c .before .before .before .before .before .before .before .before .before .before .before .before .before .before .before .before .before .before .loop .plant) (c .before .before .before .before .before .plant-event .result .tails)))
     (λ c. omega arith)
     (λ c. omega arith)
     (λ c. omega arith)
@@ -275,9 +224,9 @@ feed-spec =
     (λ c. omega arith)
     (λ c. omega arith)
     loop2-again
-    put-reply-requires-3
-    add-i-2
-    loop-less-3
+    (λ c κs. on (c .before .before .before .before .before .before .before .before .before .before .before .before .before .before .before .before) .1)
+    (λ c. omega (arith, on (c .before .before .before .before .before) .0))
+    (λ c. omega (arith, on (c .before .before .before .before .before) .0, apart-most (asked (c .match .tables) (c .match .door) (parse (take 0 (c .before .before .before .before .before .before .loop .line)))) (c .match .g)))
     loop-again-3
     (λ c. omega arith)
     (λ c. omega arith)
