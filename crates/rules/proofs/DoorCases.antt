@@ -290,6 +290,7 @@ shortMemory =
     ∷ "load 2 0" prints "66 0 0 0 0"
     ∷ "call 0 2 80 16" prints "66 0 0 0 0"
     ∷ "raise 300 5" prints "66 0 0 0 0"
+    ∷ "hit 0 0 2 0 0 0" prints "66 0 0 0 0"
     ∷ []
 
 -- an extent that is neither the last of its guest nor the last guest's ends last
@@ -316,6 +317,9 @@ noCaller =
     ∷ "head 2 0 3b 0" prints "67 0 0 0 0"
     ∷ "head 0 2 3b 0" prints "67 0 0 0 0"
     ∷ "head 0 1 3b 0" prints "6 0 0 0 0"
+    ∷ "hit 2 0 2 0 0 0" prints "67 0 0 0 0"
+    ∷ "hit 0 2 2 0 0 0" prints "67 0 0 0 0"
+    ∷ "hit 0 1 2 0 0 0" prints "6 0 0 0 0"
     ∷ "raise 100 6" prints "68 0 0 0 0"
     ∷ "raise 300 5" prints "68 0 0 0 0"
     ∷ "raise 0 0" prints "68 0 0 0 0"

@@ -59,6 +59,7 @@ changesAlone =
     ∷ "call 1 0 80 14 3c 0 0" prints "0 0 0 0 0" setting (unset 1 0 0x3c ∷ [])
     ∷ "store 1 0 1" prints "0 0 0 0 0" setting (word 0x2000 1 ∷ [])
     ∷ "load 0 0" prints "0 100000200 0 0 0"
+    ∷ "hit 0 0 1 0 0 7" prints "0 0 0 0 0" setting (word 0x740 1 ∷ word 0x748 7 ∷ [])
     ∷ []
 
 pub record KeptCases : Type 0 where

@@ -5,6 +5,7 @@ pub mod Changes
 pub mod Computing
 pub mod DoorCases
 pub mod Examples
+pub mod HitCases
 pub mod ImageCases
 pub mod KeptCases
 pub mod Listed

@@ -4,7 +4,7 @@ use mathlib.Core.List.{List, [], _∷_}
 use Prim.Native.Nat.{ℕ}
 use Prim.Native.String.{String}
 use lib.ListN.{replicate, length}
-use Rattle.rules.specs.Types.{Call, Event}
+use Rattle.rules.specs.Types.{Call, TsbHit, Event}
 use Rattle.rules.specs.Text.{bad, event, pieces, lineOf, parse}
 use Rattle.rules.specs.Session.{begin, output}
 use Rattle.rules.proofs.Computing.{computing}
@@ -24,6 +24,7 @@ badLines =
     ∷ "Load 0 0" prints "bad"
     ∷ "loads 0 0" prints "bad"
     ∷ "loa 0 0" prints "bad"
+    ∷ "hits 0 0 0 0 0 0" prints "bad"
     ∷ "image11 120 0000000 0001 0000" prints "bad"
     -- "too few or too many fields"
     ∷ "call 0 0 ff" prints "bad"
@@ -36,6 +37,8 @@ badLines =
     ∷ "load 0 0 0" prints "bad"
     ∷ "store 0 0" prints "bad"
     ∷ "store 0 0 1 0" prints "bad"
+    ∷ "hit 0 0 0 0 0" prints "bad"
+    ∷ "hit 0 0 0 0 0 0 0" prints "bad"
     -- "parted by one space"
     ∷ " load 0 0" prints "bad"
     ∷ "load  0 0" prints "bad"
@@ -114,6 +117,10 @@ callOneToNine = record { guest = 1; cpu = 2; trap = 3; function = 4; arg0 = 5; a
 abbrev pub callOneToFour : Call
 callOneToFour = record { guest = 1; cpu = 2; trap = 3; function = 4; arg0 = 0; arg1 = 0; arg2 = 0; arg3 = 0; arg4 = 0 }
 
+-- hit (guest, cpuid, side, context mark, page index, ticks)
+abbrev pub hitOneToSix : TsbHit
+hitOneToSix = record { guest = 1; cpu = 2; side = 3; context = 4; index = 5; ticks = 6 }
+
 pub record TextCases : Type 0 where
   pub bad-lines : Cases 8192 onePage badLines
   pub good-lines : Cases 8192 onePage goodLines
@@ -121,10 +128,11 @@ pub record TextCases : Type 0 where
   pub memory-size : length (begin .memory) ≡ 32768
   pub call-fields : parse (bytesOf "call 1 2 3 4 5 6 7 8 9") ≡ event (Event.Call callOneToNine)
   pub call-missing : parse (bytesOf "call 1 2 3 4") ≡ event (Event.Call callOneToFour)
+  pub hit-fields : parse (bytesOf "hit 1 2 3 4 5 6") ≡ event (Event.Hit hitOneToSix)
 
 pub text-cases : TextCases
 unfolding computing comparing after heard outputs
-text-cases = record { bad-lines = refl; good-lines = refl; whole-inputs = refl; memory-size = refl; call-fields = refl; call-missing = refl }
+text-cases = record { bad-lines = refl; good-lines = refl; whole-inputs = refl; memory-size = refl; call-fields = refl; call-missing = refl; hit-fields = refl }
 
 -- "lines of at most 2,048 bytes": a line of 2,048 is read by its pieces, whatever they are, and one of 2,049 is bad
 pub longest-line : parse (replicate 2048 0x20) ≡ lineOf (pieces [] (replicate 2048 0x20))

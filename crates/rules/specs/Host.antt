@@ -15,6 +15,7 @@ use Rattle.rules.specs.Tables.{keepRules}
 use Rattle.rules.specs.Calls.{call}
 use Rattle.rules.specs.Queues.{write-head}
 use Rattle.rules.specs.Memory.{load-word, store-word}
+use Rattle.rules.specs.Hits.{tsb-hit}
 use Rattle.rules.specs.Sources.{sysinoOf, raise}
 use Rattle.rules.specs.Rulings.{Ruling, refused, granted, Outcome, outcomeOf, _or-refuse_then_}
 
@@ -25,6 +26,9 @@ plantRule sight plant (Event.Head h) = ltb (h .cpu) (plant .cpus) or-refuse NoCa
 plantRule sight plant (Event.Raise d) = raise plant (d .devhandle) (d .devino)
 plantRule sight plant (Event.Load l) = load-word sight plant (l .address)
 plantRule sight plant (Event.Store s) = store-word (sight .valid) plant (s .address) (s .value)
+plantRule sight plant (Event.Hit t) =
+    ltb (t .cpu) (plant .cpus) or-refuse NoCaller then
+    tsb-hit sight plant (t .cpu) (t .side) (t .context) (t .index) (t .ticks)
 
 -- "An event belongs to the guest it names, a raise to the guest that has the source; a raise that answers 104 belongs to none."
 abbrev pub isFound : Found → Bool
@@ -42,6 +46,7 @@ ownerOf tables (Event.Raise d) =
     ownerFound (firstBelow (tables .guests) (λ g. isFound (sysinoOf (plantAt tables g) (d .devhandle) (d .devino))))
 ownerOf tables (Event.Load l) = Owner.Guest (l .guest)
 ownerOf tables (Event.Store s) = Owner.Guest (s .guest)
+ownerOf tables (Event.Hit t) = Owner.Guest (t .guest)
 
 -- the rule on memory (102): it does not end "before the end of any extent's host pages"
 unfoldable pub longEnough : Tables → ℕ → Bool

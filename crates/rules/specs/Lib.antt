@@ -24,6 +24,7 @@ pub mod Mondo
 -- TSB lists and memory
 pub mod Tsb
 pub mod Memory
+pub mod Hits
 -- Interrupt sources
 pub mod Sources
 -- The session program

@@ -8,7 +8,7 @@ use Prim.Native.String.{String}
 use Prim.Native.String as string
 use lib.Dec.{leb, ltb, eqb}
 use lib.ListN.{length, getD}
-use Rattle.rules.specs.Types.{Call, HeadWrite, Device, LoadAt, StoreAt, Event}
+use Rattle.rules.specs.Types.{Call, HeadWrite, Device, LoadAt, StoreAt, TsbHit, Event}
 use Rattle.rules.specs.Scan.{_is-from_to_}
 use Rattle.rules.specs.Rulings.{if_then_else_}
 
@@ -41,6 +41,9 @@ loadWord = bytesOf "load"
 
 abbrev pub storeWord : List ℕ
 storeWord = bytesOf "store"
+
+abbrev pub hitWord : List ℕ
+hitWord = bytesOf "hit"
 
 abbrev pub badWord : List ℕ
 badWord = bytesOf "bad"
@@ -144,6 +147,17 @@ loadOf ns = record { guest = getD ns 0 0; address = getD ns 1 0 }
 abbrev pub storeOf : List ℕ → StoreAt
 storeOf ns = record { guest = getD ns 0 0; address = getD ns 1 0; value = getD ns 2 0 }
 
+-- guest, cpuid, side, context mark, page index and ticks
+abbrev pub hitOf : List ℕ → TsbHit
+hitOf ns = record {
+  guest = getD ns 0 0;
+  cpu = getD ns 1 0;
+  side = getD ns 2 0;
+  context = getD ns 3 0;
+  index = getD ns 4 0;
+  ticks = getD ns 5 0;
+}
+
 -- "in the order given under the events". "Only the five arguments of a call may be missing, and are then 0."
 unfoldable pub eventLine : List ℕ → List ℕ → Line
 eventLine word ns =
@@ -152,6 +166,7 @@ eventLine word ns =
     if same word raiseWord && eqb (length ns) 2 then event (Event.Raise (deviceOf ns)) else
     if same word loadWord && eqb (length ns) 2 then event (Event.Load (loadOf ns)) else
     if same word storeWord && eqb (length ns) 3 then event (Event.Store (storeOf ns)) else
+    if same word hitWord && eqb (length ns) 6 then event (Event.Hit (hitOf ns)) else
     bad
 
 abbrev pub eventOr : List ℕ → Option (List ℕ) → Line

@@ -21,6 +21,7 @@ pub use Rattle.rules.specs.declared.HeadWrite.{HeadWrite}
 pub use Rattle.rules.specs.declared.Device.{Device}
 pub use Rattle.rules.specs.declared.LoadAt.{LoadAt}
 pub use Rattle.rules.specs.declared.StoreAt.{StoreAt}
+pub use Rattle.rules.specs.declared.TsbHit.{TsbHit}
 pub use Rattle.rules.specs.declared.Event.{Event}
 pub use Rattle.rules.specs.declared.Group.{Group}
 pub use Rattle.rules.specs.declared.SourceCall.{SourceCall}

@@ -167,12 +167,23 @@ pub struct StoreAt {
     pub value: u64,
 }
 
+// A hit in a TSB: side is 0 instruction, 1 data; context is 0 for context zero, 1 for another; index is the page size's.
+pub struct TsbHit {
+    pub guest: u64,
+    pub cpu: u64,
+    pub side: u64,
+    pub context: u64,
+    pub index: u64,
+    pub ticks: u64,
+}
+
 pub enum Event {
     Call(Call),
     Head(HeadWrite),
     Raise(Device),
     Load(LoadAt),
     Store(StoreAt),
+    Hit(TsbHit),
 }
 
 // The API groups 0, 1, 2 and 0x200.
