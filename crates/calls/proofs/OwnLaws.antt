@@ -13,6 +13,7 @@ use Rattle.rules.specs.declared.Extents.{Extents}
 use Rattle.rules.specs.declared.HeadWrite.{HeadWrite}
 use Rattle.rules.specs.declared.Plant.{Plant}
 use Rattle.rules.specs.declared.Source.{Source}
+use Rattle.rules.specs.declared.TsbHit.{TsbHit}
 use Rattle.rules.specs.Kept.{cpuAt, sourceAt}
 use Rattle.rules.specs.Limits.{cpuLimit}
 use Rattle.rules.specs.Rulings.{if_then_else_}
@@ -63,6 +64,7 @@ cpu-below plant (Event.Head h) = place-below (h .cpu)
 cpu-below plant (Event.Raise d) = target-below (namedIn plant (d .devhandle) (d .devino))
 cpu-below plant (Event.Load l) = omega arith
 cpu-below plant (Event.Store s) = omega arith
+cpu-below plant (Event.Hit t) = place-below (t .cpu)
 
 -- c is what the code was told, and the record there is the event's
 module _ (plant : Plant) (event : Event) (c : ℕ) (p : c ≡ cpuOf plant event) where
@@ -88,6 +90,10 @@ module _ (extents : Extents) (plant : Plant) (n : ℕ) (s : Sound extents plant 
   pub own-head : (w : HeadWrite) → w .cpu < plant .cpus → own ≡ cpuAt plant (cpuOf plant (Event.Head w)) → own ≡ cpuAt plant (w .cpu)
   unfolding cpuOf
   own-head w h p = own-itself (w .cpu) h p
+
+  pub own-hit : (t : TsbHit) → t .cpu < plant .cpus → own ≡ cpuAt plant (cpuOf plant (Event.Hit t)) → own ≡ cpuAt plant (t .cpu)
+  unfolding cpuOf
+  own-hit t h p = own-itself (t .cpu) h p
 
   -- a target is a cpuid of the guest
   pub own-target : (d : Device) (found : Named) → found ≡ namedIn plant (d .devhandle) (d .devino) → (i : ℕ) (source : Source) → found ≡ Named.At i source

@@ -15,14 +15,17 @@ use Rattle.rules.specs.declared.Plant.{Plant}
 use Rattle.rules.specs.declared.QueueRecord.{QueueRecord}
 use Rattle.rules.specs.declared.Refusal.the-variants.{NoCaller, NoSource}
 use Rattle.rules.specs.declared.Source.{Source}
+use Rattle.rules.specs.declared.TsbHit.{TsbHit}
 use Rattle.rules.specs.Kept.{cpuAt, queueAt}
-use Rattle.rules.specs.Real.{Sight}
+use Rattle.rules.specs.Real.{Sight, valid}
 use Rattle.rules.specs.Rulings.{outcomeOf}
 use Rattle.rules.specs.Calls.{call}
 use Rattle.rules.specs.Queues.{write-head}
+use Rattle.rules.specs.Hits.{tsb-hit}
 use Rattle.rules.specs.Sources.{raise, raiseAt}
 use Rattle.rules.specs.Host.{plantRule}
-use Rattle.records.specs.Sound.{RecordSound, Sound}
+use Rattle.memory.specs.Ready.{present}
+use Rattle.records.specs.Sound.{RecordSound, BufferSound, Sound}
 use Rattle.plants.specs.declared.change.Change.{Change}
 use Rattle.plants.specs.declared.change.Done.{Done}
 use Rattle.plants.specs.Changes.{doneBy}
@@ -42,6 +45,10 @@ places-sound v (QueueRecord.Set ring) s = record { head = s .head-below; tail = 
 pub head-places : (extents : Extents) (plant : Plant) (n : ℕ) (own : Cpu) (cpu queue : ℕ) → Sound extents plant n → cpu < plant .cpus → own ≡ cpuAt plant cpu → queue ≤ 0x3f → PlacesSound (queueAt own (queue - 0x3c))
 head-places extents plant n own cpu queue s h p l = rw p (places-sound _ (queueAt (cpuAt plant cpu) (queue - 0x3c)) (s .rings cpu (queue - 0x3c) h (omega arith)))
 
+-- the buffer of a cpu that is there
+pub hit-buffer : (extents : Extents) (plant : Plant) (n : ℕ) (own : Cpu) (cpu : ℕ) → Sound extents plant n → cpu < plant .cpus → own ≡ cpuAt plant cpu → BufferSound (valid (present extents)) (own .statistics)
+hit-buffer extents plant n own cpu s h p = rw p (s .buffers cpu h)
+
 module _ (extents : Extents) (plant : Plant) (s : Sight) (m : List ℕ) (d : Done) where
   module _ (c : Call) where
     pub call-nobody : plant .cpus ≤ c .cpu → d ≡ doneBy (Refused NoCaller) Change.Nothing → Follows extents plant (plantRule s plant (Event.Call c)) m d m
@@ -60,6 +67,16 @@ module _ (extents : Extents) (plant : Plant) (s : Sight) (m : List ℕ) (d : Don
     pub head-cpu : w .cpu < plant .cpus → quietly plant d ≡ outcomeOf plant (write-head plant (w .cpu) (w .queue) (w .value)) → Follows extents plant (plantRule s plant (Event.Head w)) m d m
     unfolding plantRule
     head-cpu h g = quiet extents plant (plantRule s plant (Event.Head w)) m d (g ∙ rw (lt-ltb (w .cpu) (plant .cpus) h))
+
+  module _ (t : TsbHit) where
+    pub hit-nobody : plant .cpus ≤ t .cpu → d ≡ doneBy (Refused NoCaller) Change.Nothing → Follows extents plant (plantRule s plant (Event.Hit t)) m d m
+    unfolding plantRule
+    hit-nobody h g = quiet-told extents plant (plantRule s plant (Event.Hit t)) m d (Refused NoCaller) g (rw (le-ltb (t .cpu) (plant .cpus) h))
+
+    pub hit-cpu : (after : List ℕ) → t .cpu < plant .cpus → Follows extents plant (tsb-hit s plant (t .cpu) (t .side) (t .context) (t .index) (t .ticks)) m d after
+        → Follows extents plant (plantRule s plant (Event.Hit t)) m d after
+    unfolding plantRule
+    hit-cpu after h g = rw (lt-ltb (t .cpu) (plant .cpus) h) g
 
   module _ (v : Device) (f : Named) (p : f ≡ namedIn plant (v .devhandle) (v .devino)) where
     pub raise-nothing : f ≡ Named.Nothing → d ≡ doneBy (Refused NoSource) Change.Nothing → Follows extents plant (plantRule s plant (Event.Raise v)) m d m

@@ -16,10 +16,11 @@ unfoldable pub targetOf : Named → ℕ
 targetOf Named.Nothing = 0
 targetOf (Named.At i s) = cpuBelow (s .target)
 
--- the cpu that a call or a head write names, and the target of the source that a raise names
+-- the cpu that a call, a head write or a TSB hit names, and the target of the source that a raise names
 unfoldable pub cpuOf : Plant → Event → ℕ
 cpuOf plant (Event.Call c) = cpuBelow (c .cpu)
 cpuOf plant (Event.Head h) = cpuBelow (h .cpu)
 cpuOf plant (Event.Raise d) = targetOf (namedIn plant (d .devhandle) (d .devino))
 cpuOf plant (Event.Load l) = 0
 cpuOf plant (Event.Store s) = 0
+cpuOf plant (Event.Hit t) = cpuBelow (t .cpu)

@@ -43,5 +43,6 @@ pub fn cpu_of(plant: Plant, event: Event) -> usize
         Event::Raise(d) => target_of(plant, d),
         Event::Load(_) => 0,
         Event::Store(_) => 0,
+        Event::Hit(t) => below(t.cpu),
     }
 }

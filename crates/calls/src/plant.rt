@@ -1,5 +1,6 @@
 // What a plant does with an event of its own, as if it were alone.
 use crate::dispatch::call;
+use hits::tsb_hit;
 use plants::Done;
 use plants::told;
 use queues::write_head;
@@ -13,6 +14,7 @@ use rules::Extents;
 use rules::HeadWrite;
 use rules::Plant;
 use rules::Refusal;
+use rules::TsbHit;
 use sources::Named;
 use sources::source_named;
 use words::load_word;
@@ -64,6 +66,18 @@ fn plant_raise(extents: Extents, plant: Plant, own: Cpu, mem: &mut [u8], d: Devi
     }
 }
 
+fn plant_hit(extents: Extents, plant: Plant, own: Cpu, mem: &mut [u8], t: TsbHit) -> Done
+    requires { ⌜ Sound extents plant (length (now mem)) ⌝ }
+    requires { ⌜ own ≡ cpuAt plant (cpuOf plant (Event.Hit t)) ⌝ }
+    ensures { λ r. ⌜ Follows extents plant (plantRule (sightOf (present extents) (now (mem .entry))) plant (Event.Hit t))
+        (now (mem .entry)) r (now (mem .exit)) ⌝ }
+{
+    if plant.cpus as u64 <= t.cpu {
+        return told(Answer::Refused(Refusal::NoCaller));
+    }
+    tsb_hit(extents, own, mem, t.side, t.context, t.index, t.ticks)
+}
+
 // own is the record of the cpu that the event looks at.
 pub fn plant_event(extents: Extents, plant: Plant, own: Cpu, mem: &mut [u8], event: Event) -> Done
     requires { ⌜ Sound extents plant (length (now mem)) ⌝ }
@@ -77,5 +91,6 @@ pub fn plant_event(extents: Extents, plant: Plant, own: Cpu, mem: &mut [u8], eve
         Event::Raise(d) => plant_raise(extents, plant, own, mem, d),
         Event::Load(l) => load_word(extents, mem, l.address),
         Event::Store(s) => store_word(extents, mem, s.address, s.value),
+        Event::Hit(t) => plant_hit(extents, plant, own, mem, t),
     }
 }

@@ -19,7 +19,7 @@ use Rattle.rules.specs.Kept.{blankQueue, hollowCpu, cpuAt, queueAt, cpuWithQueu
 use Rattle.rules.specs.Real.{valid}
 use Rattle.rules.specs.Queues.{nextTail, hasRoom, putIn}
 use Rattle.memory.specs.Ready.{present}
-use Rattle.records.specs.Sound.{RingSound, RecordSound, Sound}
+use Rattle.records.specs.Sound.{RingSound, RecordSound, BufferSound, Sound}
 
 -- what stands in a list after a store is what was stored, or what stood there
 set-cases : {A : Type 0} (l : List A) (i j : ℕ) (a d : A) → (getD (set l i a) j d ≡ a) ⊎ (getD (set l i a) j d ≡ getD l j d)
@@ -49,6 +49,11 @@ queue-replaced extents plant n cpu q held s a h = record {
       ⊎-elim
       (λ e. subst (λ (u : Cpu). RecordSound (valid (present extents)) (queueAt u j)) (sym e) (queue-sound _ (cpuAt plant cpu) q held h j (s .rings cpu j a k)))
       (λ e. subst (λ (u : Cpu). RecordSound (valid (present extents)) (queueAt u j)) (sym e) (s .rings c j l k))
+      (set-cases (plant .cpu) cpu c (cpuWithQueue (cpuAt plant cpu) q held) hollowCpu);
+  buffers = λ c l.
+      ⊎-elim
+      (λ e. subst (λ (u : Cpu). BufferSound (valid (present extents)) (u .statistics)) (sym e) (s .buffers cpu a))
+      (λ e. subst (λ (u : Cpu). BufferSound (valid (present extents)) (u .statistics)) (sym e) (s .buffers c l))
       (set-cases (plant .cpu) cpu c (cpuWithQueue (cpuAt plant cpu) q held) hollowCpu);
   targets = s .targets;
 }

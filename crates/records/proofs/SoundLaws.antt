@@ -4,23 +4,25 @@ use mathlib.Core.Bool.{Bool, true, _&&_}
 use Prim.Native.Nat.{ℕ, _*_, _/_, _%_, _≤_, _<_}
 use native.Mathlib.Omega.{arith}
 use lib.Dec.{eqb, ltb, leb}
-use borrow.Author.Tests.{eqb-true, ltb-true, leb-true, lt-ltb}
+use borrow.Author.Tests.{eqb-true, ne-eqb, ltb-true, leb-true, lt-ltb}
 use Rattle.rules.specs.declared.QueueRecord.{QueueRecord}
 use Rattle.rules.specs.declared.Ring.{Ring}
 use Rattle.rules.specs.declared.Cpu.{Cpu}
 use Rattle.rules.specs.declared.Plant.{Plant}
 use Rattle.rules.specs.declared.Source.{Source}
 use Rattle.rules.specs.Kept.{cpuAt, queueAt, sourceAt}
-use Rattle.rules.specs.Limits.{cpuLimit, sourceLimit, devhandles, devinos}
+use Rattle.rules.specs.Limits.{cpuLimit, sourceLimit, queueLimit, devhandles, devinos}
+use Rattle.rules.specs.Memory.{newStatistics}
 use Rattle.rules.specs.Queues.{newRing}
 use Rattle.rules.specs.Rulings.{accepts}
-use Rattle.rules.specs.Tables.{listRight, placeRight, ringRight, recordRight, cpuRight, cpuBlank, sourceRight, sourceBlank, versionsRight, plantKeeps}
+use Rattle.rules.specs.Scan.{allBelow}
+use Rattle.rules.specs.Tables.{listRight, placeRight, ringRight, recordRight, tsbsRight, cpuRight, cpuBlank, sourceRight, sourceBlank, versionsRight, plantKeeps}
 use Rattle.rules.proofs.Scan.{all-at}
 use Rattle.rules.proofs.Tests.{and-left, and-right}
-use Rattle.records.specs.Sound.{RingSound, RecordSound}
+use Rattle.records.specs.Sound.{RingSound, RecordSound, BufferSound}
 use Rattle.records.specs.Verdict.{verdictOf}
 use Rattle.records.specs.declared.Verdict.the-variants.{Right}
-use Rattle.records.proofs.Told.{told-right, range-told, entries-least, entries-most}
+use Rattle.records.proofs.Told.{told-right, told-then, range-told, entries-least, entries-most}
 
 -- a list that is right: its length, and what holds at each place that is there
 module _ (limit count : ℕ) (right blank : ℕ → Bool) (e : listRight limit count right blank ≡ true) where
@@ -81,6 +83,20 @@ cpu-record : (v : ℕ → ℕ → Bool) (cpu : Cpu) (q : ℕ) → cpuRight v cpu
 unfolding cpuRight
 cpu-record v cpu q e h = all-at (λ j. recordRight v (queueAt cpu j)) 4 q (and-left _ _ e) h
 
+-- an address that 0x102 would accept
+pub buffer-sound : (v : ℕ → ℕ → Bool) (address : ℕ) → accepts (newStatistics v address) ≡ true → BufferSound v address
+unfolding newStatistics
+buffer-sound v address e some =
+    let told : verdictOf (newStatistics v address) ≡ Right = told-right _ e in
+    let aligned : eqb (address % 64) 0 ≡ true = told-then _ _ _ (rw (ne-eqb address 0 some) at told) in
+    told-then _ _ _ (rw (ne-eqb address 0 some, aligned) at told)
+
+cpu-buffer : (v : ℕ → ℕ → Bool) (cpu : Cpu) → cpuRight v cpu ≡ true → BufferSound v (cpu .statistics)
+unfolding cpuRight
+cpu-buffer v cpu e =
+    buffer-sound v (cpu .statistics)
+    (and-right (tsbsRight v (cpu .ctxnon0)) _ (and-right (tsbsRight v (cpu .ctx0)) _ (and-right (allBelow queueLimit (λ q. recordRight v (queueAt cpu q))) _ e)))
+
 pub source-target : (plant : Plant) (s : Source) → sourceRight plant s ≡ true → s .target < plant .cpus
 unfolding sourceRight
 source-target plant s e =
@@ -111,6 +127,9 @@ module _ (v : ℕ → ℕ → Bool) (plant : Plant) (e : plantKeeps v plant ≡ 
 
   pub plant-rings : (c q : ℕ) → c < plant .cpus → q < 4 → RecordSound v (queueAt (cpuAt plant c) q)
   plant-rings c q h k = record-sound v (queueAt (cpuAt plant c) q) (plant-records c q h k)
+
+  pub plant-buffers : (c : ℕ) → c < plant .cpus → BufferSound v (cpuAt plant c .statistics)
+  plant-buffers c h = cpu-buffer v (cpuAt plant c) (list-there _ _ _ _ cpus-right c h)
 
   pub plant-targets : (i : ℕ) → i < plant .sources → sourceAt plant i .target < plant .cpus
   plant-targets i h = source-target plant (sourceAt plant i) (list-there _ _ _ _ sources-right i h)

@@ -26,6 +26,10 @@ abbrev pub RecordSound : (ℕ → ℕ → Bool) → QueueRecord → Type 0
 RecordSound valid QueueRecord.Unset = Unit {0}
 RecordSound valid (QueueRecord.Set ring) = RingSound valid ring
 
+-- a statistics address is 0, or its buffer lies in valid memory
+abbrev pub BufferSound : (ℕ → ℕ → Bool) → ℕ → Type 0
+BufferSound valid address = (address ≡ 0 → ⊥) → valid address 512 ≡ true
+
 -- a guest with a memory of n bytes
 pub record Sound (extents : Extents) (plant : Plant) (n : ℕ) : Type 0 where
   pub few : extents .extents ≤ extentLimit
@@ -33,4 +37,5 @@ pub record Sound (extents : Extents) (plant : Plant) (n : ℕ) : Type 0 where
   pub cpus : plant .cpus ≤ cpuLimit
   pub sources : plant .sources ≤ sourceLimit
   pub rings : (c q : ℕ) → c < plant .cpus → q < 4 → RecordSound (valid (present extents)) (queueAt (cpuAt plant c) q)
+  pub buffers : (c : ℕ) → c < plant .cpus → BufferSound (valid (present extents)) (cpuAt plant c .statistics)
   pub targets : (i : ℕ) → i < plant .sources → sourceAt plant i .target < plant .cpus

@@ -100,7 +100,7 @@ pub fn judge_statistics(e: Extents, address: u64) -> Verdict
 }
 
 // Page indexes 0, 1, 3 and 5.
-fn is_page_index(k: u32) -> bool
+pub fn is_page_index(k: u64) -> bool
     ensures { λ r. ⌜ r ≡ isPageIndex k ⌝ }
 {
     match k {
@@ -147,7 +147,7 @@ fn is_lowest_index(mask: u32, index: u16) -> bool
     ensures { λ r. ⌜ r ≡ lowestIndex mask index ⌝ }
 {
     let lowest = u32::trailing_zeros(mask);
-    is_page_index(index as u32) & (index as u32 == lowest)
+    is_page_index(index as u64) & (index as u32 == lowest)
 }
 
 // A TSB descriptor, as 0x20 and 0x21 accept it.
@@ -155,7 +155,7 @@ pub fn judge_tsb(e: Extents, t: Tsb) -> Verdict
     requires { ⌜ e .extents ≤ extentLimit ⌝ }
     ensures { λ r. ⌜ r ≡ verdictOf (judgedTsb (valid (present e)) t) ⌝ }
 {
-    if !is_page_index(t.index as u32) {
+    if !is_page_index(t.index as u64) {
         return Verdict::Refused(Refusal::EBADPGSZ);
     }
     if t.mask == 0 {

@@ -2,9 +2,8 @@
 use mathlib.Core.Bool.{Bool}
 use mathlib.Core.List.{[], _∷_}
 use Prim.Native.Nat.{ℕ, _+_, _*_, _%_, _^_}
-use lib.Dec.{eqb}
+use lib.Dec.{leb, eqb}
 use Rattle.rules.specs.Types.{Plant, Done, EINVAL}
-use Rattle.rules.specs.Scan.{_is-from_to_}
 use Rattle.rules.specs.Kept.{cpuAt}
 use Rattle.rules.specs.Real.{Sight, numberOf, wordBytes, Write}
 use Rattle.rules.specs.Tsb.{isPageIndex}
@@ -12,11 +11,11 @@ use Rattle.rules.specs.Rulings.{Ruling, granted, Outcome, _or-refuse_the
 
 -- "instruction or data side": 0 or 1
 abbrev pub isSide : ℕ → Bool
-isSide side = side is-from 0 to 1
+isSide side = leb side 1
 
 -- "context zero or not": 0 or 1
 abbrev pub isContextMark : ℕ → Bool
-isContextMark context = context is-from 0 to 1
+isContextMark context = leb context 1
 
 -- where in the buffer the hits of a side, a context mark and a page index are counted; the ticks are counted 8 bytes behind. 003
 -- has a row for each, and HitCases.antt has them all.

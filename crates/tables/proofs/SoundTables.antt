@@ -16,7 +16,7 @@ use Rattle.rules.specs.Host.{longEnough}
 use Rattle.rules.proofs.Tests.{and-left, and-right}
 use Rattle.memory.proofs.Checked.{guest-ready}
 use Rattle.records.specs.Sound.{Sound}
-use Rattle.records.proofs.SoundLaws.{list-length, list-there, plant-cpus, plant-sources, plant-rings, plant-targets}
+use Rattle.records.proofs.SoundLaws.{list-length, list-there, plant-cpus, plant-sources, plant-rings, plant-buffers, plant-targets}
 
 module _ (e : Extents) (p : extentsKeep e ≡ true) where
   abbrev places : Bool
@@ -68,5 +68,6 @@ module _ (tables : Tables) (keep : keepRules tables ≡ true) where
           cpus = plant-cpus _ _ plant-keeps;
           sources = plant-sources _ _ plant-keeps;
           rings = plant-rings _ _ plant-keeps;
+          buffers = plant-buffers _ _ plant-keeps;
           targets = plant-targets _ _ plant-keeps;
         }

@@ -29,6 +29,12 @@ enum-told c = search needs
 enum-told-2 : tie.Need-enum-told-2
 enum-told-2 c = search needs
 
+enum-known-event-4 : tie.Need-enum-known-event-4
+enum-known-event-4 c = search needs
+
+below-requires-3 : tie.Need-below-requires-3
+below-requires-3 c κs = search needs
+
 returns : tie.Need-returns
 unfolding cpuOf
 returns c = search cpu-as
@@ -49,6 +55,10 @@ returns-5 : tie.Need-returns-5
 unfolding cpuOf
 returns-5 c = search cpu-as
 
+returns-6 : tie.Need-returns-6
+unfolding cpuOf
+returns-6 c = search cpu-as
+
 pub cpu-of-spec : {M : Type 1} → statement M
 cpu-of-spec =
     tie.close
@@ -61,8 +71,11 @@ cpu-of-spec =
     target-of-requires
     enum-told
     enum-told-2
+    enum-known-event-4
+    below-requires-3
     returns
     returns-2
     returns-3
     returns-4
-    returns-5)
+    returns-5
+    returns-6)
