@@ -36,6 +36,12 @@ enum-known-event-5 c = search needs
 store-word-requires : tie.Need-store-word-requires
 store-word-requires c κs = search needs
 
+enum-known-event-6 : tie.Need-enum-known-event-6
+enum-known-event-6 c = search needs
+
+plant-hit-requires : tie.Need-plant-hit-requires
+plant-hit-requires c κs = (search needs, search own-as)
+
 same-length : tie.Need-same-length
 same-length c = search needs
 
@@ -68,6 +74,12 @@ returns-5 : tie.Need-returns-5
 unfolding plantRule
 returns-5 c = event-as _ _ _ _ _ _ _ _ (c .before .before .before .before .before .event5 .given .1) (c .before .before .store-word .ensures _)
 
+same-length-6 : tie.Need-same-length-6
+same-length-6 c = search needs
+
+returns-6 : tie.Need-returns-6
+returns-6 c = event-as _ _ _ _ _ _ _ _ (c .before .before .before .before .before .event6 .given .1) (c .before .before .plant-hit .ensures)
+
 pub plant-event-spec : {M : Type 1} → statement M
 plant-event-spec =
     tie.close
@@ -82,6 +94,8 @@ plant-event-spec =
     load-word-requires
     enum-known-event-5
     store-word-requires
+    enum-known-event-6
+    plant-hit-requires
     same-length
     returns
     same-length-2
@@ -91,4 +105,6 @@ plant-event-spec =
     same-length-4
     returns-4
     same-length-5
-    returns-5)
+    returns-5
+    same-length-6
+    returns-6)
