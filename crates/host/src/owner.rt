@@ -58,5 +58,6 @@ pub(crate) fn owner_of(tables: Tables, event: Event) -> Owner
         }
         Event::Load(l) => Owner::Guest(l.guest),
         Event::Store(s) => Owner::Guest(s.guest),
+        Event::Hit(t) => Owner::Guest(t.guest),
     }
 }

@@ -10,10 +10,13 @@ use Rattle.rules.specs.declared.Function.{Function}
 use Rattle.rules.specs.declared.Plant.{Plant}
 use Rattle.rules.specs.declared.Refusal.the-variants.{EINVAL, EBADALIGN, ENORADDR, EBADTRAP, ENOTSUPPORTED, NoCaller}
 use Rattle.rules.specs.Real.{Sight}
-use Rattle.rules.specs.Rulings.{Ruling, granted, Outcome, _or-refuse_then_, _grants_}
+use Rattle.rules.specs.Rulings.{Ruling, granted, Outcome, _or-refuse_then_, _grants_, if_then_else_}
 use Rattle.rules.specs.Versions.{groupOf, known, majorOf, get-version}
 use Rattle.rules.specs.Queues.{isQueue, cpu-qinfo, cpu-myid, write-head}
 use Rattle.rules.specs.Memory.{wholePages, mem-scrub, mem-sync, wholeWord, store-word, load-word, mmustat-info}
+use Rattle.rules.specs.Kept.{cpuAt}
+use Rattle.rules.specs.Tsb.{isPageIndex}
+use Rattle.rules.specs.Hits.{isSide, isContextMark, tsb-hit}
 use Rattle.rules.specs.Calls.{functionOf, negotiatedAsOne, admitted, perform, call}
 use Rattle.rules.specs.Tables.{plantKeeps}
 use Rattle.rules.specs.Host.{plantRule}
@@ -58,6 +61,19 @@ module _ (sight : Sight) (plant : Plant) (e : plantKeeps (sight .valid) plant �
   load-fine : (address : ℕ) → Fine v plant (load-word sight plant address)
   unfolding load-word
   load-fine address = word-fine address _ (unchanged v plant e)
+
+  -- a hit that is counted, or has no buffer
+  counted-fine : (t : Bool) (x y : Ruling Outcome) → Fine v plant x → Fine v plant y → Fine v plant (if t then x else y)
+  counted-fine true x y f g = f
+  counted-fine false x y f g = g
+
+  hit-fine : (cpu side context index ticks : ℕ) → Fine v plant (tsb-hit sight plant cpu side context index ticks)
+  unfolding tsb-hit
+  hit-fine cpu side context index ticks =
+      fine-then v plant e (isSide side) EINVAL _ (λ _.
+      fine-then v plant e (isContextMark context) EINVAL _ (λ _.
+      fine-then v plant e (isPageIndex index) EINVAL _ (λ _.
+      counted-fine (eqb (cpuAt plant cpu .statistics) 0) _ _ (unchanged v plant e) (unchanged v plant e))))
 
   get-version-fine : (group : ℕ) → Fine v plant (get-version plant group)
   unfolding get-version
@@ -118,3 +134,4 @@ module _ (sight : Sight) (plant : Plant) (e : plantKeeps (sight .valid) plant �
   plant-fine (Event.Raise d) = raise-fine v plant e (d .devhandle) (d .devino)
   plant-fine (Event.Load l) = load-fine (l .address)
   plant-fine (Event.Store s) = store-fine (s .address) (s .value)
+  plant-fine (Event.Hit t) = fine-then v plant e (ltb (t .cpu) (plant .cpus)) NoCaller _ (λ _. hit-fine (t .cpu) (t .side) (t .context) (t .index) (t .ticks))

@@ -64,6 +64,7 @@ module _ (a b : Tables) (s : Steady a b) where
   owner-same (Event.Raise d) = rw (s .guests) (ap (λ (p : ℕ → Bool). ownerFound (firstBelow (a .guests) p)) (fun-ext (λ j. ap isFound (sysino-same j (d .devhandle) (d .devino)))))
   owner-same (Event.Load l) = refl
   owner-same (Event.Store x) = refl
+  owner-same (Event.Hit t) = refl
 
   run-same : (k : ℕ) → runAt b k ≡ runAt a k
   unfolding runAt

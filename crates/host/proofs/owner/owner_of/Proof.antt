@@ -24,6 +24,9 @@ enum-known-event-4 c = search needs
 enum-known-event-5 : tie.Need-enum-known-event-5
 enum-known-event-5 c = search needs
 
+enum-known-event-6 : tie.Need-enum-known-event-6
+enum-known-event-6 c = search needs
+
 returns : tie.Need-returns
 unfolding ownerOf
 returns c = owner-as _ _ _ _ (c .before .event .given .1) refl
@@ -43,6 +46,10 @@ returns-5 : tie.Need-returns-5
 unfolding ownerOf
 returns-5 c = owner-as _ _ _ _ (c .before .event5 .given .1) refl
 
+returns-6 : tie.Need-returns-6
+unfolding ownerOf
+returns-6 c = owner-as _ _ _ _ (c .before .event6 .given .1) refl
+
 pub owner-of-spec : {M : Type 1} → statement M
 owner-of-spec =
     tie.close
@@ -53,8 +60,10 @@ owner-of-spec =
     raise-owner-requires
     enum-known-event-4
     enum-known-event-5
+    enum-known-event-6
     returns
     returns-2
     returns-3
     returns-4
-    returns-5)
+    returns-5
+    returns-6)
