@@ -12,8 +12,9 @@ use Rattle.rules.specs.declared.HeadWrite.{HeadWrite}
 use Rattle.rules.specs.declared.Device.{Device}
 use Rattle.rules.specs.declared.LoadAt.{LoadAt}
 use Rattle.rules.specs.declared.StoreAt.{StoreAt}
+use Rattle.rules.specs.declared.TsbHit.{TsbHit}
 use Rattle.rules.specs.declared.Event.{Event}
-use Rattle.rules.specs.Text.{callWord, headWord, raiseWord, loadWord, storeWord, same, callOf, headOf, deviceOf, loadOf, storeOf, eventLine}
+use Rattle.rules.specs.Text.{callWord, headWord, raiseWord, loadWord, storeWord, hitWord, same, callOf, headOf, deviceOf, loadOf, storeOf, hitOf, eventLine}
 use Rattle.text.specs.declared.line.Line.{Line}
 use Rattle.text.specs.Gathered.{ZeroFrom}
 use Rattle.text.specs.Lines.{told}
@@ -57,6 +58,11 @@ module _ (word ns : List ℕ) (n : ℕ) (pre : (n ≤ length ns) × ZeroFrom n n
           unfolding eventLine told
           event-store h r e = rw (size, ← p₁, f₁, ← p₂, f₂, ← p₃, f₃, ← p₄, f₄, ← p₅, h, e) (simp at)
 
-          pub event-none : (t₅ && eqb n 3) ≡ false → Line.Bad ≡ told (eventLine word (take n ns))
-          unfolding eventLine told
-          event-none h = rw (size, ← p₁, f₁, ← p₂, f₂, ← p₃, f₃, ← p₄, f₄, ← p₅, h)
+          module _ (f₅ : (t₅ && eqb n 3) ≡ false) (t₆ : Bool) (p₆ : t₆ ≡ same word hitWord) where
+            pub event-hit : (t₆ && eqb n 6) ≡ true → (r : TsbHit) → r ≡ hitOf ns → Line.Event (Event.Hit r) ≡ told (eventLine word (take n ns))
+            unfolding eventLine told
+            event-hit h r e = rw (size, ← p₁, f₁, ← p₂, f₂, ← p₃, f₃, ← p₄, f₄, ← p₅, f₅, ← p₆, h, e) (simp at)
+
+            pub event-none : (t₆ && eqb n 6) ≡ false → Line.Bad ≡ told (eventLine word (take n ns))
+            unfolding eventLine told
+            event-none h = rw (size, ← p₁, f₁, ← p₂, f₂, ← p₃, f₃, ← p₄, f₄, ← p₅, f₅, ← p₆, h)

@@ -12,7 +12,7 @@ use lib.Seq.{sets}
 use borrow.Author.Tests.{leb-true, le-leb, lt-leb, not-true, not-false}
 use Rattle.rules.specs.Rulings.{if_then_else_}
 use Rattle.rules.specs.declared.Event.{Event}
-use Rattle.rules.specs.Text.{Line, bad, image, event, imageWord, callWord, headWord, raiseWord, loadWord, storeWord, same, callOf, headOf, deviceOf, loadOf, storeOf, fields, imageOr, eventOr, eventLine, lineOf, pieces, parse}
+use Rattle.rules.specs.Text.{Line, bad, image, event, imageWord, callWord, headWord, raiseWord, loadWord, storeWord, hitWord, same, callOf, headOf, deviceOf, loadOf, storeOf, hitOf, fields, imageOr, eventOr, eventLine, lineOf, pieces, parse}
 use Rattle.text.specs.declared.line.Line.{Line as Told}
 use Rattle.text.specs.declared.digits.Size.{Size}
 use Rattle.text.specs.Pieces.{firstLength, behind, imageAt, sizeOr}
@@ -63,21 +63,23 @@ unfolding eventLine told
 event-no-image word none = refl
 event-no-image word (some ns) =
     go (same word callWord && (leb 4 (length ns) && leb (length ns) 9)) (same word headWord && eqb (length ns) 4) (same word raiseWord && eqb (length ns) 2)
-    (same word loadWord && eqb (length ns) 2) (same word storeWord && eqb (length ns) 3)
+    (same word loadWord && eqb (length ns) 2) (same word storeWord && eqb (length ns) 3) (same word hitWord && eqb (length ns) 6)
   where
-    go : (a b c d e : Bool) → isImage (told (
+    go : (a b c d e f : Bool) → isImage (told (
         if a then event (Event.Call (callOf ns)) else
         if b then event (Event.Head (headOf ns)) else
         if c then event (Event.Raise (deviceOf ns)) else
         if d then event (Event.Load (loadOf ns)) else
         if e then event (Event.Store (storeOf ns)) else
+        if f then event (Event.Hit (hitOf ns)) else
         bad)) ≡ false
-    go true b c d e = refl
-    go false true c d e = refl
-    go false false true d e = refl
-    go false false false true e = refl
-    go false false false false true = refl
-    go false false false false false = refl
+    go true b c d e f = refl
+    go false true c d e f = refl
+    go false false true d e f = refl
+    go false false false true e f = refl
+    go false false false false true f = refl
+    go false false false false false true = refl
+    go false false false false false false = refl
 
 -- the bytes of a line: t is whether the code took it for an image's
 module _ (s : List ℕ) (line : Told) (p : line ≡ told (parse s)) (t : Bool) (q : t ≡ isImage line) where

@@ -25,6 +25,7 @@ too-many word ns h =
       ne-eqb (length ns) 4 (λ e. omega arith),
       ne-eqb (length ns) 2 (λ e. omega arith),
       ne-eqb (length ns) 3 (λ e. omega arith),
+      ne-eqb (length ns) 6 (λ e. omega arith),
       and-false,
     )
 

@@ -2,7 +2,7 @@
 ghost use mathlib.Core.Path.{_≡_};
 ghost use Prim.Native.Nat.{_≤_};
 ghost use lib.ListN.{length, take, drop};
-ghost use Rattle.rules.specs.Text.{fields, callOf, headOf, deviceOf, loadOf, storeOf, eventLine, eventOr};
+ghost use Rattle.rules.specs.Text.{fields, callOf, headOf, deviceOf, loadOf, storeOf, hitOf, eventLine, eventOr};
 ghost use Rattle.text.specs.Pieces.{behind};
 ghost use Rattle.text.specs.Gathered.{ZeroFrom};
 ghost use Rattle.text.specs.Lines.{told};
@@ -16,6 +16,7 @@ use rules::Event;
 use rules::HeadWrite;
 use rules::LoadAt;
 use rules::StoreAt;
+use rules::TsbHit;
 
 fn call_of(ns: [u64; FIELDS]) -> Call
     ensures { λ r. ⌜ r ≡ callOf ns ⌝ }
@@ -72,6 +73,19 @@ fn store_of(ns: [u64; FIELDS]) -> StoreAt
     }
 }
 
+fn hit_of(ns: [u64; FIELDS]) -> TsbHit
+    ensures { λ r. ⌜ r ≡ hitOf ns ⌝ }
+{
+    TsbHit {
+        guest: ns[0],
+        cpu: ns[1],
+        side: ns[2],
+        context: ns[3],
+        index: ns[4],
+        ticks: ns[5],
+    }
+}
+
 // The event of n numbers. Only a call may have fewer than its type has: those that are missing are 0.
 fn event_of(word: &[u8], n: usize, ns: [u64; FIELDS]) -> Line
     requires { ⌜ (n ≤ length ns) × ZeroFrom n ns ⌝ }
@@ -91,6 +105,9 @@ fn event_of(word: &[u8], n: usize, ns: [u64; FIELDS]) -> Line
     }
     if same_text(word, b"store") & (n == 3) {
         return Line::Event(Event::Store(store_of(ns)));
+    }
+    if same_text(word, b"hit") & (n == 6) {
+        return Line::Event(Event::Hit(hit_of(ns)));
     }
     Line::Bad
 }

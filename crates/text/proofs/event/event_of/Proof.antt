@@ -1,6 +1,6 @@
 -- `event::event_of` meets its contract: each word with its number of fields, in the order of the rule.
 use borrow.Author.Needs.{needs}
-use Rattle.text.proofs.EventLaws.{event-call, event-head, event-raise, event-load, event-store, event-none}
+use Rattle.text.proofs.EventLaws.{event-call, event-head, event-raise, event-load, event-store, event-hit, event-none}
 use Rattle.text.proofs.event.event_of.Statement.{statement}
 use Rattle.text.proofs.event.event_of.Tie as tie
 
@@ -64,8 +64,20 @@ store-of-requires c κs = search needs
 returns-5 : tie.Need-returns-5
 returns-5 c = search event-store
 
+slice-aggregate-same-text-6 : tie.Need-slice-aggregate-same-text-6
+slice-aggregate-same-text-6 c = search needs
+
+same-text-requires-6 : tie.Need-same-text-requires-6
+same-text-requires-6 c κs = search needs
+
+hit-of-requires : tie.Need-hit-of-requires
+hit-of-requires c κs = search needs
+
 returns-6 : tie.Need-returns-6
-returns-6 c = search event-none
+returns-6 c = search event-hit
+
+returns-7 : tie.Need-returns-7
+returns-7 c = search event-none
 
 pub event-of-spec : {M : Type 1} → statement M
 event-of-spec =
@@ -91,4 +103,8 @@ event-of-spec =
     same-text-requires-5
     store-of-requires
     returns-5
-    returns-6)
+    slice-aggregate-same-text-6
+    same-text-requires-6
+    hit-of-requires
+    returns-6
+    returns-7)
