@@ -11,10 +11,10 @@ use lib.ListN.{length}
 use borrow.Author.Tests.{leb-true, le-leb, eq-eqb, eqb-true}
 use Rattle.rules.specs.Rulings.{if_then_else_}
 use Rattle.rules.specs.declared.Event.{Event}
-use Rattle.rules.specs.Text.{Line, bad, image, event, imageWord, callWord, headWord, raiseWord, loadWord, storeWord, same, consed, digits, field, fields, paired, pairedOr, joined, eventLine, eventOr, imageOr, lineOf, pieces, parse, callOf, headOf, deviceOf, loadOf, storeOf}
+use Rattle.rules.specs.Text.{Line, bad, image, event, imageWord, callWord, headWord, raiseWord, loadWord, storeWord, hitWord, same, consed, digits, field, fields, paired, pairedOr, joined, eventLine, eventOr, imageOr, lineOf, pieces, parse, callOf, headOf, deviceOf, loadOf, storeOf, hitOf}
 use Rattle.rules.proofs.Tests.{and-left, and-right, bool-same}
 use Rattle.reasons.specs.declared.fault.Word.{Word}
-use Rattle.reasons.specs.declared.fault.Word.the-variants.{Call, Head, Raise, Load, Store}
+use Rattle.reasons.specs.declared.fault.Word.the-variants.{Call, Head, Raise, Load, Store, Hit}
 use Rattle.reasons.specs.declared.fault.Fault.{Fault}
 use Rattle.reasons.specs.declared.fault.Fault.the-variants.{TooLong, EmptyField, NoNumber, NoDigit, OddDigits}
 use Rattle.reasons.specs.Faults.{_or-tell_then_, isSome, wordOf, least, most, whyField, whyCount, _before_, whyFields, whyEvent, whyImage, whyLine, lastByte, orReturn, whyBad}
@@ -135,6 +135,10 @@ module _ (ns : List ℕ) where
   unfolding Exact eventLine wordOf same
   store-exactly = rw (zero-add, ← as-many 3) (fits (eqb (length ns) 3) (Event.Store (storeOf ns)))
 
+  hit-exactly : Exact hitWord
+  unfolding Exact eventLine wordOf same
+  hit-exactly = rw (zero-add, ← as-many 6) (fits (eqb (length ns) 6) (Event.Hit (hitOf ns)))
+
 -- the same text
 same-eq : (a b : List ℕ) → same a b ≡ true → a ≡ b
 unfolding same
@@ -145,16 +149,20 @@ same-eq (x ∷ xs) (y ∷ ys) e = ap₂ _∷_ (eqb-true x y (and-left _ _ e)) (s
 
 named-exactly : (word ns : List ℕ) → Exact ns word
 unfolding Exact eventLine wordOf
-named-exactly word ns = go (same word callWord) refl (same word headWord) refl (same word raiseWord) refl (same word loadWord) refl (same word storeWord) refl
+named-exactly word ns =
+    go (same word callWord) refl (same word headWord) refl (same word raiseWord) refl (same word loadWord) refl (same word storeWord) refl
+    (same word hitWord) refl
   where
     go : (a : Bool) → same word callWord ≡ a → (b : Bool) → same word headWord ≡ b → (c : Bool) → same word raiseWord ≡ c
-        → (d : Bool) → same word loadWord ≡ d → (e : Bool) → same word storeWord ≡ e → Exact ns word
-    go true p b q c r d s e t = subst⁻¹ (Exact ns) (same-eq word _ p) (call-exactly ns)
-    go false p true q c r d s e t = subst⁻¹ (Exact ns) (same-eq word _ q) (head-exactly ns)
-    go false p false q true r d s e t = subst⁻¹ (Exact ns) (same-eq word _ r) (raise-exactly ns)
-    go false p false q false r true s e t = subst⁻¹ (Exact ns) (same-eq word _ s) (load-exactly ns)
-    go false p false q false r false s true t = subst⁻¹ (Exact ns) (same-eq word _ t) (store-exactly ns)
-    go false p false q false r false s false t = rw (p, q, r, s, t)
+        → (d : Bool) → same word loadWord ≡ d → (e : Bool) → same word storeWord ≡ e
+        → (f : Bool) → same word hitWord ≡ f → Exact ns word
+    go true p b q c r d s e t f u = subst⁻¹ (Exact ns) (same-eq word _ p) (call-exactly ns)
+    go false p true q c r d s e t f u = subst⁻¹ (Exact ns) (same-eq word _ q) (head-exactly ns)
+    go false p false q true r d s e t f u = subst⁻¹ (Exact ns) (same-eq word _ r) (raise-exactly ns)
+    go false p false q false r true s e t f u = subst⁻¹ (Exact ns) (same-eq word _ s) (load-exactly ns)
+    go false p false q false r false s true t f u = subst⁻¹ (Exact ns) (same-eq word _ t) (store-exactly ns)
+    go false p false q false r false s false t true u = subst⁻¹ (Exact ns) (same-eq word _ u) (hit-exactly ns)
+    go false p false q false r false s false t false u = rw (p, q, r, s, t, u)
 
 event-exactly : (word : List ℕ) (texts : List (List ℕ)) → isSome (whyEvent (wordOf word) texts) ≡ isBad (eventOr word (fields texts))
 unfolding Exact

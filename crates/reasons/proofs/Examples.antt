@@ -8,7 +8,7 @@ use lib.ListN.{replicate}
 use Rattle.text.specs.Pieces.{firstLength}
 use Rattle.rules.proofs.Computing.{computing}
 use Rattle.rules.specs.Text.{bytesOf}
-use Rattle.reasons.specs.declared.fault.Word.the-variants.{Call, Head}
+use Rattle.reasons.specs.declared.fault.Word.the-variants.{Call, Head, Hit}
 use Rattle.reasons.specs.declared.fault.Fault.{Fault}
 use Rattle.reasons.specs.declared.fault.Fault.the-variants.{TooLong, CarriageReturn, OtherWord, EmptyField, NoNumber, TooFew, TooMany, NoDigit, OddDigits}
 use Rattle.reasons.specs.Faults.{wordOf, whyField, whyCount, whyFields, whyImage, whyLine, lastByte, whyBad}
@@ -28,6 +28,10 @@ Explains line answer words = reason (bytesOf line) (bytesOf answer) ≡ bytesOf 
 good : why "call 0 0 80 a8 200 5 800" ≡ none
 unfolding explaining
 good = refl
+
+good-hit : why "hit 0 0 1 1 3 5" ≡ none
+unfolding explaining
+good-hit = refl
 
 good-image : why "image 1 2 " ≡ none
 unfolding explaining
@@ -60,6 +64,10 @@ digits-17 = refl
 too-few : why "head 0 0 3c" ≡ some (TooFew Head)
 unfolding explaining
 too-few = refl
+
+no-ticks : why "hit 0 0 1 1 3" ≡ some (TooFew Hit)
+unfolding explaining
+no-ticks = refl
 
 too-many : why "call 0 0 80 14 3c 0 0 0 0 0" ≡ some (TooMany Call)
 unfolding explaining
@@ -96,3 +104,7 @@ bad-field = refl
 bad-count : Explains "head 0 0 3c" "bad" "too few fields: head GUEST CPU QUEUE VALUE"
 unfolding explaining
 bad-count = refl
+
+bad-hit : Explains "hit 0 0 1 1 3 5 0" "bad" "too many fields: hit GUEST CPU SIDE CONTEXT INDEX TICKS"
+unfolding explaining
+bad-hit = refl

@@ -10,7 +10,7 @@ use lib.Dec.{eqb}
 use lib.ListN.{length, take, drop}
 use borrow.Author.Tests.{le-leb, lt-leb, eq-eqb, ne-eqb}
 use Rattle.rules.specs.Rulings.{if_then_else_}
-use Rattle.rules.specs.Text.{imageWord, callWord, headWord, raiseWord, loadWord, storeWord, same, pieces}
+use Rattle.rules.specs.Text.{imageWord, callWord, headWord, raiseWord, loadWord, storeWord, hitWord, same, pieces}
 use Rattle.text.specs.Pieces.{firstLength, behind, unspaced}
 use Rattle.text.proofs.PieceLaws.{pieces-split, joined-behind}
 use Rattle.reasons.specs.declared.fault.Word.{Word}
@@ -48,9 +48,14 @@ module _ (text : List ℕ) (t₁ : Bool) (p₁ : t₁ ≡ same text callWord) wh
           unfolding wordOf
           word-store h = rw (← p₁, f₁, ← p₂, f₂, ← p₃, f₃, ← p₄, f₄, ← p₅, h)
 
-          pub word-other : t₅ ≡ false → Found.Other ≡ foundOr (wordOf text)
-          unfolding wordOf
-          word-other h = rw (← p₁, f₁, ← p₂, f₂, ← p₃, f₃, ← p₄, f₄, ← p₅, h)
+          module _ (f₅ : t₅ ≡ false) (t₆ : Bool) (p₆ : t₆ ≡ same text hitWord) where
+            pub word-hit : t₆ ≡ true → Found.Event Word.Hit ≡ foundOr (wordOf text)
+            unfolding wordOf
+            word-hit h = rw (← p₁, f₁, ← p₂, f₂, ← p₃, f₃, ← p₄, f₄, ← p₅, f₅, ← p₆, h)
+
+            pub word-other : t₆ ≡ false → Found.Other ≡ foundOr (wordOf text)
+            unfolding wordOf
+            word-other h = rw (← p₁, f₁, ← p₂, f₂, ← p₃, f₃, ← p₄, f₄, ← p₅, f₅, ← p₆, h)
 
 -- what a word that was found tells
 other-told : (o : Option Word) → Found.Other ≡ foundOr o → o ≡ none

@@ -13,7 +13,7 @@ use Rattle.rules.specs.Rulings.{if_then_else_}
 use Rattle.rules.specs.Text.{bytesOf, badWord, same, field}
 use Rattle.rules.proofs.Tests.{and-left, and-right}
 use Rattle.reasons.specs.declared.fault.Word.{Word}
-use Rattle.reasons.specs.declared.fault.Word.the-variants.{Call, Head, Raise, Load, Store}
+use Rattle.reasons.specs.declared.fault.Word.the-variants.{Call, Head, Raise, Load, Store, Hit}
 use Rattle.reasons.specs.declared.fault.Fault.{Fault}
 use Rattle.reasons.specs.declared.fault.Fault.the-variants.{TooLong, CarriageReturn, OtherWord, EmptyField, NoNumber, TooFew, TooMany, NoDigit, OddDigits}
 use Rattle.reasons.specs.declared.fault.Why.{Why}
@@ -49,6 +49,7 @@ form-short Head = omega arith
 form-short Raise = omega arith
 form-short Load = omega arith
 form-short Store = omega arith
+form-short Hit = omega arith
 
 fault-short : (fault : Fault) → Short (faultText fault)
 unfolding faultText

@@ -7,9 +7,9 @@ use Prim.Native.Nat.{ℕ, suc, _-_}
 use lib.Dec.{leb, eqb}
 use lib.ListN.{length, getD}
 use Rattle.rules.specs.Rulings.{if_then_else_}
-use Rattle.rules.specs.Text.{imageWord, callWord, headWord, raiseWord, loadWord, storeWord, same, pieces, digits, field, pairedOr, joined}
+use Rattle.rules.specs.Text.{imageWord, callWord, headWord, raiseWord, loadWord, storeWord, hitWord, same, pieces, digits, field, pairedOr, joined}
 use Rattle.reasons.specs.declared.fault.Word.{Word}
-use Rattle.reasons.specs.declared.fault.Word.the-variants.{Call, Head, Raise, Load, Store}
+use Rattle.reasons.specs.declared.fault.Word.the-variants.{Call, Head, Raise, Load, Store, Hit}
 use Rattle.reasons.specs.declared.fault.Fault.{Fault}
 use Rattle.reasons.specs.declared.fault.Fault.the-variants.{TooLong, CarriageReturn, OtherWord, EmptyField, NoNumber, TooFew, TooMany, NoDigit, OddDigits}
 
@@ -31,6 +31,7 @@ wordOf text =
     if same text raiseWord then some Raise else
     if same text loadWord then some Load else
     if same text storeWord then some Store else
+    if same text hitWord then some Hit else
     none
 
 -- how few and how many fields it takes: "Only the five arguments of a call may be missing"
@@ -40,6 +41,7 @@ least Head = 4
 least Raise = 2
 least Load = 2
 least Store = 3
+least Hit = 6
 
 abbrev pub most : Word → ℕ
 most Call = 9
@@ -47,6 +49,7 @@ most Head = 4
 most Raise = 2
 most Load = 2
 most Store = 3
+most Hit = 6
 
 -- the field at the place k, from 1: a leading, doubled or trailing space makes an empty one
 unfoldable pub whyField : ℕ → List ℕ → Option Fault

@@ -9,7 +9,7 @@ use Rattle.rules.specs.Rulings.{if_then_else_}
 use Rattle.rules.specs.Text.{bytesOf, lineFeed, badWord, same, field}
 use Rattle.text.specs.Pieces.{firstLength}
 use Rattle.reasons.specs.declared.fault.Word.{Word}
-use Rattle.reasons.specs.declared.fault.Word.the-variants.{Call, Head, Raise, Load, Store}
+use Rattle.reasons.specs.declared.fault.Word.the-variants.{Call, Head, Raise, Load, Store, Hit}
 use Rattle.reasons.specs.declared.fault.Fault.{Fault}
 use Rattle.reasons.specs.declared.fault.Fault.the-variants.{TooLong, CarriageReturn, OtherWord, EmptyField, NoNumber, TooFew, TooMany, NoDigit, OddDigits}
 use Rattle.reasons.specs.declared.fault.Why.{Why}
@@ -77,11 +77,12 @@ form Head = bytesOf "head GUEST CPU QUEUE VALUE"
 form Raise = bytesOf "raise DEVHANDLE DEVINO"
 form Load = bytesOf "load GUEST ADDRESS"
 form Store = bytesOf "store GUEST ADDRESS VALUE"
+form Hit = bytesOf "hit GUEST CPU SIDE CONTEXT INDEX TICKS"
 
 unfoldable pub faultText : Fault → List ℕ
 faultText TooLong = bytesOf "the line has more than 2,048 bytes"
 faultText CarriageReturn = bytesOf "the line ends in a carriage return (0d): end lines with a line feed alone"
-faultText OtherWord = bytesOf "the first word is none of image, call, head, raise, load, store (lower case, no space before it)"
+faultText OtherWord = bytesOf "the first word is none of image, call, head, raise, load, store, hit (lower case, no space before it)"
 faultText (EmptyField k) = bytesOf "field " ++ decimal k ++ bytesOf " is empty: a space too many"
 faultText (NoNumber k) = bytesOf "field " ++ decimal k ++ bytesOf " is not 1 to 16 hex digits"
 faultText (TooFew word) = bytesOf "too few fields: " ++ form word

@@ -7,6 +7,7 @@ pub enum Word {
     Raise,
     Load,
     Store,
+    Hit,
 }
 
 // A field is told by its place behind the first word, from 1; too few and too many fields by the word that asks for others.

@@ -21,6 +21,7 @@ fn least_of(word: Word) -> usize
         Word::Raise => 2,
         Word::Load => 2,
         Word::Store => 3,
+        Word::Hit => 6,
     }
 }
 
@@ -33,6 +34,7 @@ fn most_of(word: Word) -> usize
         Word::Raise => 2,
         Word::Load => 2,
         Word::Store => 3,
+        Word::Hit => 6,
     }
 }
 

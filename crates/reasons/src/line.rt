@@ -36,6 +36,9 @@ fn word_of(text: &[u8]) -> Found
     if same_text(text, b"store") {
         return Found::Event(Word::Store);
     }
+    if same_text(text, b"hit") {
+        return Found::Event(Word::Hit);
+    }
     Found::Other
 }
 

@@ -139,6 +139,7 @@ fn put_form(word: Word, at: usize, out: &mut [u8; ROOM]) -> usize
         Word::Raise => put_text(b"raise DEVHANDLE DEVINO\n", at, out),
         Word::Load => put_text(b"load GUEST ADDRESS\n", at, out),
         Word::Store => put_text(b"store GUEST ADDRESS VALUE\n", at, out),
+        Word::Hit => put_text(b"hit GUEST CPU SIDE CONTEXT INDEX TICKS\n", at, out),
     }
 }
 
@@ -172,7 +173,7 @@ fn put_fault(fault: Fault, out: &mut [u8; ROOM]) -> usize
             out,
         ),
         Fault::OtherWord => put_text(
-            b"the first word is none of image, call, head, raise, load, store (lower case, no space before it)\n",
+            b"the first word is none of image, call, head, raise, load, store, hit (lower case, no space before it)\n",
             0,
             out,
         ),

@@ -1,5 +1,5 @@
 -- `line::word_of` meets its contract: a word after another.
-use Rattle.reasons.proofs.LineLaws.{word-call, word-head, word-raise, word-load, word-store, word-other}
+use Rattle.reasons.proofs.LineLaws.{word-call, word-head, word-raise, word-load, word-store, word-hit, word-other}
 use borrow.Author.Needs.{needs}
 use Rattle.reasons.proofs.line.word_of.Statement.{statement}
 use Rattle.reasons.proofs.line.word_of.Tie as tie
@@ -49,8 +49,17 @@ same-text-requires-5 c κs = search needs
 returns-5 : tie.Need-returns-5
 returns-5 c = search word-store
 
+slice-aggregate-same-text-6 : tie.Need-slice-aggregate-same-text-6
+slice-aggregate-same-text-6 c = search needs
+
+same-text-requires-6 : tie.Need-same-text-requires-6
+same-text-requires-6 c κs = search needs
+
 returns-6 : tie.Need-returns-6
-returns-6 c = search word-other
+returns-6 c = search word-hit
+
+returns-7 : tie.Need-returns-7
+returns-7 c = search word-other
 
 pub word-of-spec : {M : Type 1} → statement M
 word-of-spec =
@@ -71,4 +80,7 @@ word-of-spec =
     slice-aggregate-same-text-5
     same-text-requires-5
     returns-5
-    returns-6)
+    slice-aggregate-same-text-6
+    same-text-requires-6
+    returns-6
+    returns-7)

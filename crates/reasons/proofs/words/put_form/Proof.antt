@@ -1,5 +1,5 @@
 -- `words::put_form` meets its contract: an arm each.
-use Rattle.reasons.specs.declared.fault.Word.the-variants.{Call, Head, Raise, Load, Store}
+use Rattle.reasons.specs.declared.fault.Word.the-variants.{Call, Head, Raise, Load, Store, Hit}
 use Rattle.reasons.specs.Words.{form, fed}
 use Rattle.reasons.proofs.PutLaws.{put-at}
 use borrow.Author.Needs.{needs}
@@ -51,6 +51,15 @@ slice-aggregate-put-text-5 c = search needs
 put-text-requires-5 : tie.Need-put-text-requires-5
 put-text-requires-5 c κs = search needs
 
+enum-told-6 : tie.Need-enum-told-6
+enum-told-6 c = search needs
+
+slice-aggregate-put-text-6 : tie.Need-slice-aggregate-put-text-6
+slice-aggregate-put-text-6 c = search needs
+
+put-text-requires-6 : tie.Need-put-text-requires-6
+put-text-requires-6 c κs = search needs
+
 returns : tie.Need-returns
 unfolding form
 returns c = put-at (λ word. fed (form word)) _ Call _ _ _ _ (c .before .before .before .enum-told .given .1) (c .put-text .ensures)
@@ -71,6 +80,10 @@ returns-5 : tie.Need-returns-5
 unfolding form
 returns-5 c = put-at (λ word. fed (form word)) _ Store _ _ _ _ (c .before .before .before .enum-told5 .given .1) (c .put-text5 .ensures)
 
+returns-6 : tie.Need-returns-6
+unfolding form
+returns-6 c = put-at (λ word. fed (form word)) _ Hit _ _ _ _ (c .before .before .before .enum-told6 .given .1) (c .put-text6 .ensures)
+
 pub put-form-spec : {M : Type 1} → statement M
 put-form-spec =
     tie.close
@@ -90,8 +103,12 @@ put-form-spec =
     enum-told-5
     slice-aggregate-put-text-5
     put-text-requires-5
+    enum-told-6
+    slice-aggregate-put-text-6
+    put-text-requires-6
     returns
     returns-2
     returns-3
     returns-4
-    returns-5)
+    returns-5
+    returns-6)
