@@ -37,6 +37,7 @@ use Rattle.words.proofs.mem_sync.Reads as mem-sync-reads
 use Rattle.words.proofs.mem_scrub.Reads as mem-scrub-reads
 use Rattle.words.proofs.store_word.Reads as store-word-reads
 use Rattle.words.proofs.load_word.Reads as load-word-reads
+use Rattle.hits.proofs.tsb_hit.Reads as tsb-hit-reads
 use Rattle.sources.proofs.intr.Reads as intr-reads
 use Rattle.sources.proofs.vintr.Reads as vintr-reads
 use Rattle.sources.proofs.intr_devino2sysino.Reads as intr-devino2sysino-reads
@@ -136,6 +137,10 @@ store-word-determined κs a r s ws vs p q plant = one-following _ _ _ _ r s _ _ 
 
 pub load-word-determined : (κs : _) (a : _) (r s : _) (ws vs : _) → load-word-reads.Post κs a r ws → load-word-reads.Post κs a s vs → (plant : Plant) → Same plant r s
 load-word-determined κs a r s ws vs p q plant = one-following _ _ _ _ r s _ _ (p plant) (q plant) .0
+
+-- hits: a TSB hit
+pub tsb-hit-determined : (κs : _) (a : _) (r s : _) (ws vs : _) → tsb-hit-reads.Post κs a r ws → tsb-hit-reads.Post κs a s vs → (plant : Plant) (cpu : ℕ) → cpuAt plant cpu ≡ a .1 .0 → Same plant r s × (now (ws .1 .1 .0) ≡ now (vs .1 .1 .0))
+tsb-hit-determined κs a r s ws vs p q plant cpu h = one-following _ _ _ _ r s _ _ (p plant cpu h) (q plant cpu h)
 
 -- sources: 0xa0 to 0xae
 pub intr-determined : (κs : _) (a : _) (r s : _) (ws vs : _) → intr-reads.Post κs a r ws → intr-reads.Post κs a s vs → Same (a .0) r s

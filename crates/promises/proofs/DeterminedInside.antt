@@ -21,6 +21,7 @@ use Rattle.partition.proofs.pages_shared.Reads as pages-shared-reads
 use Rattle.partition.proofs.named_before.Reads as named-before-reads
 use Rattle.partition.proofs.source_twice.Reads as source-twice-reads
 use Rattle.records.proofs.is_right.Reads as is-right-reads
+use Rattle.records.proofs.is_page_index.Reads as is-page-index-reads
 use Rattle.records.proofs.judge_ring.Reads as judge-ring-reads
 use Rattle.records.proofs.judge_statistics.Reads as judge-statistics-reads
 use Rattle.records.proofs.judge_tsb.Reads as judge-tsb-reads
@@ -104,6 +105,9 @@ source-twice-determined κs a r s ws vs p q = p ∙ sym q
 -- records: what each call accepts
 pub is-right-determined : (κs : _) (a : _) (r s : _) (ws vs : _) → is-right-reads.Post κs a r ws → is-right-reads.Post κs a s vs → r ≡ s
 is-right-determined κs a r s ws vs p q = p ∙ sym q
+
+pub is-page-index-determined : (κs : _) (a : _) (r s : _) (ws vs : _) → is-page-index-reads.Post κs a r ws → is-page-index-reads.Post κs a s vs → r ≡ s
+is-page-index-determined κs a r s ws vs p q = p ∙ sym q
 
 pub judge-ring-determined : (κs : _) (a : _) (r s : _) (ws vs : _) → judge-ring-reads.Post κs a r ws → judge-ring-reads.Post κs a s vs → r ≡ s
 judge-ring-determined κs a r s ws vs p q = p ∙ sym q

@@ -42,13 +42,20 @@ module _ (P : HostOutcome → Type 0) (tables : Tables) (memory : List ℕ) (eve
       door true false keep = left ShortMemory (omega arith)
       door false u keep = left BadTables (omega arith)
 
+  -- of an event whose owner is known
+  pub at-owner : (g : ℕ) → ownerOf tables event ≡ Owner.Guest g
+      → ((r : Refusal) → 101 ≤ statusOf r → P (hostOutcomeOf tables memory (refused r)))
+      → P (putBack tables memory g (did (machineOf tables memory g) event))
+      → P (hostEvent tables memory event)
+  at-owner g owner left done =
+      at-door left (λ h _ _ other.
+      let same : g ≡ h = cc in
+      subst (λ h. P (putBack tables memory h (did (machineOf tables memory h) event))) same done)
+
 -- a call's owner is the guest that it names
 pub at-call : (P : HostOutcome → Type 0) (tables : Tables) (memory : List ℕ) (c : Call)
     → ((r : Refusal) → 101 ≤ statusOf r → P (hostOutcomeOf tables memory (refused r)))
     → P (putBack tables memory (c .guest) (did (machineOf tables memory (c .guest)) (Event.Call c)))
     → P (hostEvent tables memory (Event.Call c))
 unfolding ownerOf
-at-call P tables memory c left done =
-    at-door P tables memory (Event.Call c) left (λ g _ _ owner.
-    let named : c .guest ≡ g = cc in
-    subst (λ g. P (putBack tables memory g (did (machineOf tables memory g) (Event.Call c)))) named done)
+at-call P tables memory c = at-owner P tables memory (Event.Call c) (c .guest) refl

@@ -1,17 +1,23 @@
 -- What a ruling grants, by the way a rule reads. A refusal grants nothing, so that there is nothing to show of it.
 use mathlib.Core.Path.{_≡_, refl, sym, _∙_}
 use mathlib.Core.Bool.{Bool, true, false, _&&_, not}
+use mathlib.Core.List.{List, []}
 use Prim.Native.Nat.{ℕ, _%_}
 use lib.Dec.{eqb}
+use Rattle.rules.specs.declared.Answer.the-variants.{Done}
 use Rattle.rules.specs.declared.Call.{Call}
 use Rattle.rules.specs.declared.Found.{Found}
 use Rattle.rules.specs.declared.Function.{Function}
 use Rattle.rules.specs.declared.Plant.{Plant}
 use Rattle.rules.specs.declared.Refusal.{Refusal}
 use Rattle.rules.specs.declared.Refusal.the-variants.{EINVAL, EBADALIGN, ENORADDR}
-use Rattle.rules.specs.Real.{Sight}
+use Rattle.rules.specs.declared.TsbHit.{TsbHit}
+use Rattle.rules.specs.Kept.{cpuAt}
+use Rattle.rules.specs.Real.{Sight, Write}
 use Rattle.rules.specs.Rulings.{RulingBy, Ruling, refused, granted, Outcome, outcomeOf, _or-refuse_then_, _refuses_then_, _grants_, if_then_else_}
 use Rattle.rules.specs.Memory.{wholePages, wholeWord}
+use Rattle.rules.specs.Tsb.{isPageIndex}
+use Rattle.rules.specs.Hits.{isSide, isContextMark, tsb-hit}
 use Rattle.rules.specs.Calls.{functionOf, admitted, perform, call}
 use Rattle.records.proofs.Told.{told-right}
 use Rattle.kept.proofs.Accepted.{granted-same}
@@ -53,6 +59,15 @@ module _ (P : Outcome → Type 0) (v : ℕ → ℕ → Bool) (address : ℕ) whe
   pub by-word : (x : Ruling Outcome) → Granting P x → Granting P (wholeWord v address x)
   unfolding wholeWord
   by-word x h = by-then P (eqb (address % 8) 0) EBADALIGN _ (by-then P (v address 8) ENORADDR x h)
+
+-- a TSB hit that is done, with whatever it writes
+pub by-hit : (P : Outcome → Type 0) (sight : Sight) (plant : Plant) (t : TsbHit) → ((writes : List Write) → P (record { answer = Done; plant = plant; writes = writes }))
+    → Granting P (tsb-hit sight plant (t .cpu) (t .side) (t .context) (t .index) (t .ticks))
+unfolding tsb-hit
+by-hit P sight plant t h =
+    by-then P (isSide (t .side)) EINVAL _
+    (by-then P (isContextMark (t .context)) EINVAL _
+    (by-then P (isPageIndex (t .index)) EINVAL _ (by-if P (eqb (cpuAt plant (t .cpu) .statistics) 0) _ _ (h []) (h _))))
 
 -- A call performs its own function, or is refused.
 pub by-call : (P : Outcome → Type 0) (sight : Sight) (plant : Plant) (c : Call) → Granting P (perform sight plant c (functionOf (c .trap) (c .function))) → Granting P (call sight plant c)

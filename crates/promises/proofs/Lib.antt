@@ -12,6 +12,8 @@ pub mod Examples
 pub mod Extents
 pub mod Faults
 pub mod Granting
+pub mod Hits
+pub mod HitsWorked
 pub mod Isolation
 pub mod Kept
 pub mod LoadedTargets

@@ -38,7 +38,7 @@ use Rattle.promises.specs.Words.{Unchanged, StatisticsCall, Clears, clea
 use Rattle.promises.specs.Machine.{did, machineOf}
 use Rattle.promises.specs.Promises.{RefusalChangesNothing, RefusedStatistics}
 use Rattle.promises.proofs.Door.{at-door, at-call}
-use Rattle.promises.proofs.Granting.{Granting, by-then, by-if, by-value, by-pages, by-word, by-call}
+use Rattle.promises.proofs.Granting.{Granting, by-then, by-if, by-value, by-pages, by-word, by-hit, by-call}
 
 -- No rule grants an outcome that answers a refusal r which is not excepted: what answers r is a ruling that refuses.
 module _ (r : Refusal) where
@@ -149,6 +149,7 @@ module _ (r : Refusal) where
         (by-if Apart (eqb (sourceAt plant i .enabled) 1 && put plant (sourceAt plant i .target) 0x3d (deviceEntry plant i) .room) _ _ tt tt))
     event-apart sight (Event.Load l) n = by-word Apart (sight .valid) (l .address) _ tt
     event-apart sight (Event.Store s) n = by-word Apart (sight .valid) (s .address) _ tt
+    event-apart sight (Event.Hit t) n = by-then Apart (ltb (t .cpu) (plant .cpus)) NoCaller _ (by-hit Apart sight plant t (λ writes. tt))
 
 -- a guest's outcome that leaves its record and writes nothing leaves the host
 pub puts-nothing : (tables : Tables) (memory : List ℕ) (g : ℕ) (o : Outcome) → o .plant ≡ plantAt tables g → o .writes ≡ [] → Unchanged tables memory (putBack tables memory g o)

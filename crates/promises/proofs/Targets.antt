@@ -34,7 +34,7 @@ use Rattle.promises.specs.Words.{targetAt, TargetFunction, SetsTarget}
 use Rattle.promises.specs.Machine.{did, machineOf}
 use Rattle.promises.specs.Promises.{FirstTargets}
 use Rattle.promises.proofs.Door.{at-door}
-use Rattle.promises.proofs.Granting.{Granting, by-then, by-if, by-value, by-outcome, by-pages, by-word, by-call}
+use Rattle.promises.proofs.Granting.{Granting, by-then, by-if, by-value, by-outcome, by-pages, by-word, by-hit, by-call}
 use Rattle.promises.proofs.LoadedTargets.{loaded-zero}
 
 -- a mondo leaves the sources
@@ -173,6 +173,7 @@ module _ (plant : Plant) where
   event-aimed sight (Event.Raise d) other = raise-aimed (d .devhandle) (d .devino)
   event-aimed sight (Event.Load l) other = by-word Aimed (sight .valid) (l .address) _ (λ i. refl)
   event-aimed sight (Event.Store s) other = by-word Aimed (sight .valid) (s .address) _ (λ i. refl)
+  event-aimed sight (Event.Hit t) other = by-then Aimed (ltb (t .cpu) (plant .cpus)) NoCaller _ (by-hit Aimed sight plant t (λ writes i. refl))
 
 -- The host's tables after: the owner's place holds its plant's outcome, every other place what it held.
 module _ (tables : Tables) (memory : List ℕ) (event : Event) (other : SetsTarget event → ⊥) (g i : ℕ) where

@@ -15,7 +15,7 @@ use Rattle.promises.specs.Machine.{covers, written, allWritten}
 abbrev from : ℕ → List ℕ → Write
 from a vs = record { at = a; bytes = vs }
 
-over-valid : (vs : List ℕ) (s : Sight) (a : ℕ) → over s a vs .valid ≡ s .valid
+pub over-valid : (vs : List ℕ) (s : Sight) (a : ℕ) → over s a vs .valid ≡ s .valid
 unfolding over
 over-valid [] s a = refl
 over-valid (v ∷ vs) s a = over-valid vs (upd s a v) (suc a)

@@ -1,10 +1,10 @@
 -- What is promised, as propositions: read this file first. The theorem that proves each is named in front of it, and stands in
--- proofs/. The words are those of Words.antt, Machine.antt, Resent.antt and Places.antt beside this file, and of the rules;
+-- proofs/. The words are those of Words.antt, Machine.antt, Resent.antt, Places.antt and Hits.antt beside this file, and of the rules;
 -- docs/PROMISES.md lists them all.
 use mathlib.Core.Path.{_≡_}
 use mathlib.Core.Bool.{true, false, _&&_}
 use mathlib.Core.List.{List}
-use Prim.Native.Nat.{ℕ, _+_, _*_, _%_, _<_}
+use Prim.Native.Nat.{ℕ, _+_, _*_, _%_, _<_, _≤_}
 use lib.Dec.{eqb}
 use lib.ListN.{length, replicate}
 use Rattle.rules.specs.declared.Answer.the-variants.{Done, One, Refused}
@@ -19,12 +19,14 @@ use Rattle.rules.specs.declared.Refusal.{Refusal}
 use Rattle.rules.specs.declared.Refusal.the-variants.{EINVAL, EBADALIGN, ENORADDR, EWOULDBLOCK}
 use Rattle.rules.specs.declared.Ring.{Ring}
 use Rattle.rules.specs.declared.Tables.{Tables}
+use Rattle.rules.specs.declared.TsbHit.{TsbHit}
 use Rattle.rules.specs.Limits.{guestLimit, queueLimit}
 use Rattle.rules.specs.Kept.{guestAt, plantAt, cpuAt, queueAt, extentsOf}
 use Rattle.rules.specs.Scan.{_is-from_to_}
 use Rattle.rules.specs.Real.{Sight, valid, byteAt}
 use Rattle.rules.specs.Rulings.{refused, granted, _or-refuse_then_, done}
 use Rattle.rules.specs.Mondo.{cpu-mondo-send}
+use Rattle.rules.specs.Hits.{hitsOffset}
 use Rattle.rules.specs.Image.{readImage, load}
 use Rattle.rules.specs.Tables.{keepRules}
 use Rattle.rules.specs.Host.{HostOutcome, longEnough, hostRule, hostEvent}
@@ -34,6 +36,7 @@ use Rattle.session.specs.Feeding.{atFirst}
 use Rattle.session.specs.Pieces.{inPieces, joinedUp, Roomy}
 use Rattle.promises.specs.Words.{Passes, belongs, tablesAfter, memoryAfter, ownEvents, ownAnswers, Unchanged, Untouched, InSome, OneRun, SameReal, StatisticsCall, Clears, cleared, Excepted, targetAt, SetsTarget, Received}
 use Rattle.promises.specs.Machine.{Machine, machineOf, guestAfter, answersAlone, machineAfter}
+use Rattle.promises.specs.Hits.{HitThere, hitNamed, bufferOf, Counted}
 use Rattle.promises.specs.Resent.{MondoCall, AllMarked, ReadyAgain, GotInAll}
 use Rattle.promises.specs.Places.{Tells, Right}
 
@@ -226,6 +229,30 @@ ReceivedWhy =
     (tables : Tables) (memory : List ℕ) (d : Device)
     → hostEvent tables memory (Event.Raise d) .answer ≡ One 1
     → Received tables d
+
+-- A TSB hit (request No. 9).
+
+-- `hits`: what a hit does, on every host that passes 101 and 102. A refused one changes nothing, by `refusal-changes-nothing`.
+pub record Hits : Type 0 where
+  -- it is counted where its cpu has a buffer
+  pub counted : (tables : Tables) (memory : List ℕ) (t : TsbHit) → Passes tables memory → HitThere tables t → hitNamed t ≡ true
+      → (bufferOf tables t ≡ 0 → ⊥)
+      → (hostEvent tables memory (Event.Hit t) .answer ≡ Done) × Counted tables memory t (hostEvent tables memory (Event.Hit t))
+  -- "With address 0 it answers EOK and does nothing."
+  pub uncounted : (tables : Tables) (memory : List ℕ) (t : TsbHit) → Passes tables memory → HitThere tables t → hitNamed t ≡ true
+      → bufferOf tables t ≡ 0
+      → (hostEvent tables memory (Event.Hit t) .answer ≡ Done) × Unchanged tables memory (hostEvent tables memory (Event.Hit t))
+  -- "EINVAL for a side, context mark or page index that isn't one of these", whatever the address
+  pub unnamed : (tables : Tables) (memory : List ℕ) (t : TsbHit) → Passes tables memory → HitThere tables t → hitNamed t ≡ false
+      → hostEvent tables memory (Event.Hit t) .answer ≡ Refused EINVAL
+  -- no hit changes a record, on any host
+  pub records-stay : (tables : Tables) (memory : List ℕ) (t : TsbHit) → hostEvent tables memory (Event.Hit t) .tables ≡ tables
+  -- each row lies in the 512 bytes of the buffer, and two hits share a word only where they are of the same row
+  pub rows-inside : (t : TsbHit) → hitNamed t ≡ true → hitsOffset (t .side) (t .context) (t .index) + 16 ≤ 512
+  pub rows-apart : (t u : TsbHit) → hitNamed t ≡ true → hitNamed u ≡ true
+      → hitsOffset (t .side) (t .context) (t .index) < hitsOffset (u .side) (u .context) (u .index) + 16
+      → hitsOffset (u .side) (u .context) (u .index) < hitsOffset (t .side) (t .context) (t .index) + 16
+      → (t .side ≡ u .side) × (t .context ≡ u .context) × (t .index ≡ u .index)
 
 -- The session.
 

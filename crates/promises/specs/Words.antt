@@ -104,6 +104,7 @@ StatisticsCall (Event.Head h) = ⊥
 StatisticsCall (Event.Raise d) = ⊥
 StatisticsCall (Event.Load l) = ⊥
 StatisticsCall (Event.Store s) = ⊥
+StatisticsCall (Event.Hit t) = ⊥
 
 -- the refusals of 0x102 that "set the statistics address to 0"
 abbrev pub Clears : Refusal → Type 0
@@ -132,6 +133,7 @@ SetsTarget (Event.Head h) = ⊥
 SetsTarget (Event.Raise d) = ⊥
 SetsTarget (Event.Load l) = ⊥
 SetsTarget (Event.Store s) = ⊥
+SetsTarget (Event.Hit t) = ⊥
 
 -- a queue that takes no entry: it is unset, or its ring is full
 abbrev pub NoRoom : QueueRecord → Type 0
