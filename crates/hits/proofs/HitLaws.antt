@@ -28,10 +28,6 @@ use Rattle.plants.specs.Changes.{doneBy, changedBy, plantAfter}
 use Rattle.plants.specs.Follows.{Follows}
 use Rattle.plants.proofs.OutcomeLaws.{quiet-told, quiet-refused}
 
--- a word with n added, as bytes
-pub sum-bytes : (bytes : List ℕ) (sum word seen n : ℕ) → bytes ≡ wordBytes sum → sum ≡ (word + n) % 2 ^ 64 → word ≡ seen → bytes ≡ wordBytes ((seen + n) % 2 ^ 64)
-sum-bytes bytes sum word seen n p q r = rw (p, q, r)
-
 -- the words of a row lie in it
 module _ (extents : Extents) (at : ℕ) (v : valid (present extents) at 16 ≡ true) where
   pub first-valid : valid (present extents) at 8 ≡ true
@@ -47,11 +43,11 @@ unfolding wordBytes
 word-valid extents at w bytes p v = rw p v
 
 -- the two writes, one after the other
-pub both-written : (extents : Extents) (m m₁ m₂ hits ticks : List ℕ) (at x y : ℕ) → hits ≡ wordBytes x → ticks ≡ wordBytes y
+pub both-written : (extents : Extents) (m m₁ m₂ hits ticks : List ℕ) (at x y hs ts : ℕ) → hs ≡ x → ts ≡ y → hits ≡ wordBytes hs → ticks ≡ wordBytes ts
     → m₁ ≡ apply (present extents) m (one at hits) → m₂ ≡ apply (present extents) m₁ (one (at + 8) ticks)
     → m₂ ≡ apply (present extents) m (record { at = at; bytes = wordBytes x } ∷ record { at = at + 8; bytes = wordBytes y } ∷ [])
 unfolding apply
-both-written extents m m₁ m₂ hits ticks at x y h t p q = rw (q, p, h, t)
+both-written extents m m₁ m₂ hits ticks at x y hs ts e f h t p q = rw (q, p, h, t, e, f)
 
 -- a page index is 5 at the most
 pub index-most : (k : ℕ) (t : Bool) → t ≡ isPageIndex k → not t ≡ false → k ≤ 5

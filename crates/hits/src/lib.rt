@@ -15,21 +15,21 @@ ghost use lib.ListN.{length};
 ghost use Rattle.rules.specs.declared.Plant.{Plant as PlantRecord};
 ghost use Rattle.rules.specs.Limits.{extentLimit};
 ghost use Rattle.rules.specs.Kept.{cpuAt};
-ghost use Rattle.rules.specs.Real.{valid, byteAt, sightOf, numberOf, wordBytes, apply};
+ghost use Rattle.rules.specs.Real.{valid, byteAt, sightOf, numberOf, apply};
 ghost use Rattle.rules.specs.Hits.{hitsOffset, adds, tsb-hit};
 ghost use Rattle.memory.specs.Ready.{present, Ready};
 ghost use Rattle.records.specs.Sound.{BufferSound};
 ghost use Rattle.plants.specs.Follows.{Follows};
 
-// The bytes of the word at a real address with n added to it, modulo 2^64.
-fn added(extents: Extents, mem: &[u8], real: Real, n: u64) -> [u8; 8]
+// The word at a real address and n, added modulo 2^64.
+fn sum_at(extents: Extents, mem: &[u8], real: Real, n: u64) -> u64
     requires { ⌜ extents .extents ≤ extentLimit ⌝ }
     requires { ⌜ Ready (present extents) (length (now mem)) ⌝ }
     requires { ⌜ valid (present extents) (real .0) 8 ≡ true ⌝ }
-    ensures { λ r. ⌜ r ≡ wordBytes ((numberOf (byteAt (present extents) (now (mem .entry))) (real .0) 8 + n) % 2 ^ 64) ⌝ }
+    ensures { λ r. ⌜ r ≡ (numberOf (byteAt (present extents) (now (mem .entry))) (real .0) 8 + n) % 2 ^ 64 ⌝ }
 {
     let word = memory::number8(extents, mem, real);
-    memory::word_bytes(wrapping_add_u64(word, n))
+    wrapping_add_u64(word, n)
 }
 
 // Where in the buffer the hits are counted: a half for each side, of it a half for each context, of that 16 bytes for each page index.
@@ -48,8 +48,8 @@ fn count(extents: Extents, mem: &mut [u8], at: u64, ticks: u64)
     ensures { λ _. ⌜ now (mem .exit) ≡ apply (present extents) (now (mem .entry))
         (adds (byteAt (present extents) (now (mem .entry))) at 1 ∷ adds (byteAt (present extents) (now (mem .entry))) (at + 8) ticks ∷ []) ⌝ }
 {
-    let hits_word = added(extents, mem, Real(at), 1);
-    let ticks_word = added(extents, mem, Real(at + 8), ticks);
+    let hits_word = memory::word_bytes(sum_at(extents, mem, Real(at), 1));
+    let ticks_word = memory::word_bytes(sum_at(extents, mem, Real(at + 8), ticks));
     memory::write_at(extents, mem, Real(at), &hits_word);
     memory::write_at(extents, mem, Real(at + 8), &ticks_word);
 }
