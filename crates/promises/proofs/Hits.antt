@@ -2,25 +2,24 @@
 use mathlib.Core.Path.{_≡_, refl, sym, ap, _∙_}
 use mathlib.Core.Bool.{Bool, true, false, _&&_, true≢false}
 use mathlib.Core.List.{List, [], _∷_}
-use mathlib.Core.Logic.{_⊎_, inl, inr, ⊎-elim}
+use mathlib.Core.Logic.{_⊎_, ⊎-elim}
 use Prim.Native.Nat.{ℕ, _+_, _%_, _^_, _<_, _≤_}
-use native.Mathlib.Nat.{add-zero}
 use native.Mathlib.Omega.{arith}
-use lib.Dec.{leb, ltb, eqb}
+use lib.Dec.{ltb}
 use lib.Seq.{set-getD}
-use borrow.Author.Tests.{eqb-true, eq-eqb, ne-eqb, leb-true, lt-ltb}
+use borrow.Author.Tests.{eq-eqb, ne-eqb, leb-true, lt-ltb}
 use Rattle.rules.specs.declared.Answer.the-variants.{Done, Refused}
 use Rattle.rules.specs.declared.Event.{Event}
 use Rattle.rules.specs.declared.Plant.{Plant}
 use Rattle.rules.specs.declared.Refusal.the-variants.{EINVAL, NoCaller}
 use Rattle.rules.specs.declared.Tables.{Tables}
 use Rattle.rules.specs.declared.TsbHit.{TsbHit}
-use Rattle.rules.specs.Kept.{guestAt, plantAt, extentsOf, hollowGuest, withPlant}
+use Rattle.rules.specs.Kept.{plantAt, extentsOf, hollowGuest}
 use Rattle.rules.specs.Real.{Sight, sightOf, valid, byteAt, numberOf, wordBytes}
 use Rattle.rules.specs.Rulings.{Ruling, Outcome, outcomeOf, _or-refuse_then_}
 use Rattle.rules.specs.Tsb.{isPageIndex}
-use Rattle.rules.specs.Hits.{isSide, isContextMark, hitsOffset, adds, tsb-hit}
-use Rattle.rules.specs.Host.{HostOutcome, plantRule, ownerOf, putBack, hostEvent}
+use Rattle.rules.specs.Hits.{isSide, isContextMark, hitsOffset, tsb-hit}
+use Rattle.rules.specs.Host.{HostOutcome, plantRule, ownerOf, hostEvent}
 use Rattle.rules.proofs.Tests.{and-left, and-right}
 use Rattle.memory.proofs.Numbers.{number-same}
 use Rattle.memory.proofs.Places.{valid-part}

@@ -14,7 +14,7 @@ use Rattle.rules.proofs.Examples.{next, after, negotiated, statistics}
 use Rattle.rules.proofs.AcceptedCalls.{storing}
 use Rattle.memory.specs.Cells.{cell}
 use Rattle.promises.specs.Words.{Unchanged}
-use Rattle.promises.specs.Hits.{HitThere, hitNamed, bufferOf, hitsAt, wordSeen, Counted}
+use Rattle.promises.specs.Hits.{HitThere, hitNamed, wordSeen, Counted}
 use Rattle.promises.proofs.AcceptedEvents.{ready}
 use Rattle.promises.proofs.Hits.{hits}
 use Rattle.promises.proofs.NotVacuous.{Passing, passes-after, reached, worked-passes-after, neighbour-unchanged}

@@ -1,22 +1,22 @@
 -- The line at each return of the code, and the bytes of an image.
-use mathlib.Core.Bool.{Bool, true, false, _&&_, not, false≢true}
+use mathlib.Core.Bool.{Bool, true, false, not, false≢true}
 use mathlib.Core.Path.{_≡_, refl, sym, ap, _∙_}
 use mathlib.Core.List.{List, []}
 use mathlib.Core.Option.{Option, none, some}
 use Prim.Native.Nat.{ℕ, _+_, _<_, _≤_}
 use native.Mathlib.Nat.{zero-add}
 use native.Mathlib.Omega.{arith}
-use lib.Dec.{leb, eqb}
+use lib.Dec.{leb}
 use lib.ListN.{length, take, drop}
 use lib.Seq.{sets}
 use borrow.Author.Tests.{leb-true, le-leb, lt-leb, not-true, not-false}
 use Rattle.rules.specs.Rulings.{if_then_else_}
-use Rattle.rules.specs.declared.Event.{Event}
-use Rattle.rules.specs.Text.{Line, bad, image, event, imageWord, callWord, headWord, raiseWord, loadWord, storeWord, hitWord, same, callOf, headOf, deviceOf, loadOf, storeOf, hitOf, fields, imageOr, eventOr, eventLine, lineOf, pieces, parse}
+use Rattle.rules.specs.Text.{Line, bad, image, event, imageWord, same, fields, imageOr, eventOr, lineOf, pieces, parse}
 use Rattle.text.specs.declared.line.Line.{Line as Told}
 use Rattle.text.specs.declared.digits.Size.{Size}
 use Rattle.text.specs.Pieces.{firstLength, behind, imageAt, sizeOr}
 use Rattle.text.specs.Lines.{told, isImage, imageOf}
+use Rattle.text.proofs.EventLaws.{event-or-bad}
 use Rattle.text.proofs.PieceLaws.{pieces-split, joined-behind}
 
 -- an image that is right or not
@@ -59,27 +59,9 @@ module _ (s : List ℕ) where
 
 -- an event is no image
 event-no-image : (word : List ℕ) (o : Option (List ℕ)) → isImage (told (eventOr word o)) ≡ false
-unfolding eventLine told
+unfolding told
 event-no-image word none = refl
-event-no-image word (some ns) =
-    go (same word callWord && (leb 4 (length ns) && leb (length ns) 9)) (same word headWord && eqb (length ns) 4) (same word raiseWord && eqb (length ns) 2)
-    (same word loadWord && eqb (length ns) 2) (same word storeWord && eqb (length ns) 3) (same word hitWord && eqb (length ns) 6)
-  where
-    go : (a b c d e f : Bool) → isImage (told (
-        if a then event (Event.Call (callOf ns)) else
-        if b then event (Event.Head (headOf ns)) else
-        if c then event (Event.Raise (deviceOf ns)) else
-        if d then event (Event.Load (loadOf ns)) else
-        if e then event (Event.Store (storeOf ns)) else
-        if f then event (Event.Hit (hitOf ns)) else
-        bad)) ≡ false
-    go true b c d e f = refl
-    go false true c d e f = refl
-    go false false true d e f = refl
-    go false false false true e f = refl
-    go false false false false true f = refl
-    go false false false false false true = refl
-    go false false false false false false = refl
+event-no-image word (some ns) = event-or-bad (λ l. isImage (told l) ≡ false) refl (λ e. refl) word ns
 
 -- the bytes of a line: t is whether the code took it for an image's
 module _ (s : List ℕ) (line : Told) (p : line ≡ told (parse s)) (t : Bool) (q : t ≡ isImage line) where

@@ -1,5 +1,5 @@
 -- How much a line can say: an image of at most 1,024 bytes.
-use mathlib.Core.Bool.{Bool, true, false, _&&_}
+use mathlib.Core.Bool.{Bool, true, false}
 use mathlib.Core.Path.{_≡_, refl}
 use mathlib.Core.List.{List, [], _∷_}
 use mathlib.Core.Option.{Option, none, some}
@@ -9,10 +9,10 @@ use lib.Dec.{leb, eqb}
 use lib.ListN.{length, take, drop}
 use borrow.Author.Tests.{leb-true}
 use Rattle.rules.specs.Rulings.{if_then_else_}
-use Rattle.rules.specs.declared.Event.{Event}
-use Rattle.rules.specs.Text.{bad, event, space, imageWord, callWord, headWord, raiseWord, loadWord, storeWord, hitWord, same, callOf, headOf, deviceOf, loadOf, storeOf, hitOf, digitOf, consed, digits, byteOf, paired, pairedOr, fields, imageOr, eventOr, eventLine, lineOf, pieces, parse}
+use Rattle.rules.specs.Text.{bad, space, imageWord, same, digitOf, consed, digits, byteOf, paired, pairedOr, fields, imageOr, eventOr, eventLine, lineOf, pieces, parse}
 use Rattle.text.specs.Pieces.{firstLength, behind, unspaced}
 use Rattle.text.specs.Lines.{imageOf}
+use Rattle.text.proofs.EventLaws.{event-or-bad}
 use Rattle.text.proofs.PieceLaws.{pieces-split, joined-behind}
 
 -- the length of a text that may be none
@@ -65,26 +65,8 @@ drop-few (suc n) (b ∷ bs) = omega (arith, drop-few n bs)
 
 -- an event has no image's bytes
 event-none : (word ns : List ℕ) → imageOf (eventLine word ns) ≡ []
-unfolding eventLine imageOf
-event-none word ns =
-    go (same word callWord && (leb 4 (length ns) && leb (length ns) 9)) (same word headWord && eqb (length ns) 4) (same word raiseWord && eqb (length ns) 2)
-    (same word loadWord && eqb (length ns) 2) (same word storeWord && eqb (length ns) 3) (same word hitWord && eqb (length ns) 6)
-  where
-    go : (a b c d e f : Bool) → imageOf (
-        if a then event (Event.Call (callOf ns)) else
-        if b then event (Event.Head (headOf ns)) else
-        if c then event (Event.Raise (deviceOf ns)) else
-        if d then event (Event.Load (loadOf ns)) else
-        if e then event (Event.Store (storeOf ns)) else
-        if f then event (Event.Hit (hitOf ns)) else
-        bad) ≡ []
-    go true b c d e f = refl
-    go false true c d e f = refl
-    go false false true d e f = refl
-    go false false false true e f = refl
-    go false false false false true f = refl
-    go false false false false false true = refl
-    go false false false false false false = refl
+unfolding imageOf
+event-none word ns = event-or-bad (λ l. imageOf l ≡ []) refl (λ e. refl) word ns
 
 -- a line of at most 2,048 bytes has an image of at most half as many
 pub image-few : (s : List ℕ) → length (imageOf (parse s)) ≤ 1024
