@@ -12,6 +12,7 @@ use Rattle.rules.proofs.SeamCases.{SeamCases, seam-cases}
 use Rattle.rules.proofs.MondoCases.{MondoCases, mondo-cases}
 use Rattle.rules.proofs.TsbCases.{TsbCases, tsb-cases}
 use Rattle.rules.proofs.MemoryCases.{MemoryCases, memory-cases}
+use Rattle.rules.proofs.HitCases.{HitCases, hit-cases}
 use Rattle.rules.proofs.SourceCases.{SourceCases, source-cases}
 use Rattle.rules.proofs.ImageCases.{ImageCases, image-cases}
 use Rattle.rules.proofs.TextCases.{TextCases, text-cases}
@@ -34,5 +35,5 @@ pub the-door-cases : DoorCases
 the-door-cases = door-cases
 
 -- every refusal and every effect of a call, an event, an image and a line, section by section
-pub the-cases : CallCases × QueueCases × MondoCases × TsbCases × MemoryCases × SeamCases × SourceCases × ImageCases × TextCases × KeptCases
-the-cases = (call-cases, queue-cases, mondo-cases, tsb-cases, memory-cases, seam-cases, source-cases, image-cases, text-cases, kept-cases)
+pub the-cases : CallCases × QueueCases × MondoCases × TsbCases × MemoryCases × SeamCases × HitCases × SourceCases × ImageCases × TextCases × KeptCases
+the-cases = (call-cases, queue-cases, mondo-cases, tsb-cases, memory-cases, seam-cases, hit-cases, source-cases, image-cases, text-cases, kept-cases)

@@ -97,14 +97,18 @@ SameReal [] (y ∷ ys) = ⊥
 SameReal (x ∷ xs) [] = ⊥
 SameReal (x ∷ xs) (y ∷ ys) = (x .real ≡ y .real) × (x .count ≡ y .count) × SameReal xs ys
 
+-- the function that a call asks for, by its trap and number; the other events ask for none
+abbrev pub functionAsked : Event → Function
+functionAsked (Event.Call c) = functionOf (c .trap) (c .function)
+functionAsked (Event.Head h) = Function.Unknown
+functionAsked (Event.Raise d) = Function.Unknown
+functionAsked (Event.Load l) = Function.Unknown
+functionAsked (Event.Store s) = Function.Unknown
+functionAsked (Event.Hit t) = Function.Unknown
+
 -- a call of 0x102
 abbrev pub StatisticsCall : Event → Type 0
-StatisticsCall (Event.Call c) = functionOf (c .trap) (c .function) ≡ Function.MmustatConf
-StatisticsCall (Event.Head h) = ⊥
-StatisticsCall (Event.Raise d) = ⊥
-StatisticsCall (Event.Load l) = ⊥
-StatisticsCall (Event.Store s) = ⊥
-StatisticsCall (Event.Hit t) = ⊥
+StatisticsCall event = functionAsked event ≡ Function.MmustatConf
 
 -- the refusals of 0x102 that "set the statistics address to 0"
 abbrev pub Clears : Refusal → Type 0
@@ -128,12 +132,7 @@ TargetFunction f = (f ≡ Function.Sysino SourceCall.SetTarget) ⊎ (f ≡ Funct
 
 -- a call of one of them
 abbrev pub SetsTarget : Event → Type 0
-SetsTarget (Event.Call c) = TargetFunction (functionOf (c .trap) (c .function))
-SetsTarget (Event.Head h) = ⊥
-SetsTarget (Event.Raise d) = ⊥
-SetsTarget (Event.Load l) = ⊥
-SetsTarget (Event.Store s) = ⊥
-SetsTarget (Event.Hit t) = ⊥
+SetsTarget event = TargetFunction (functionAsked event)
 
 -- a queue that takes no entry: it is unset, or its ring is full
 abbrev pub NoRoom : QueueRecord → Type 0
