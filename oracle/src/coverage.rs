@@ -45,7 +45,7 @@ pub fn tally_of(text: &[u8]) -> io::Result<Tally> {
 }
 
 /// A call by its trap and function, a head write by its queue, a raise by the
-/// state after it.
+/// state after it, a hit by its place in the buffer.
 pub fn kind(line: &[u8], first_value: &str) -> String {
     match parse(line) {
         None => "bad".into(),
@@ -59,6 +59,10 @@ pub fn kind(line: &[u8], first_value: &str) -> String {
         Some(Line::Event(Event::Raise { .. })) => format!("raise to {first_value}"),
         Some(Line::Event(Event::Load { .. })) => "load".into(),
         Some(Line::Event(Event::Store { .. })) => "store".into(),
+        Some(Line::Event(Event::Hit { hit, .. })) => match hit.place() {
+            Some(place) => format!("hit {place:x}"),
+            None => "hit other".into(),
+        },
     }
 }
 

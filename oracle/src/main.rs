@@ -5,6 +5,7 @@ mod bench;
 mod calls;
 mod coverage;
 mod generate;
+mod hits;
 mod image;
 mod model;
 mod queues;

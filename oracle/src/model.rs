@@ -1,6 +1,7 @@
 //! The host: its entry rules and its events.
 
 use crate::calls::Caller;
+use crate::hits::Hit;
 use crate::image::{self, Fault};
 use crate::tables::{Guest, HostOffset, RealAddress, Tables};
 
@@ -70,6 +71,11 @@ pub enum Event {
         address: RealAddress,
         value: u64,
     },
+    Hit {
+        guest: u64,
+        cpuid: u64,
+        hit: Hit,
+    },
 }
 
 pub struct Host {
@@ -118,6 +124,7 @@ impl Host {
                 address,
                 value,
             } => self.store(guest, address, value),
+            Event::Hit { guest, cpuid, hit } => self.caller(guest, cpuid)?.count_hit(&hit),
         }
     }
 

@@ -58,7 +58,7 @@ fn named(host: &Host, event: &Event) -> Named {
             }
             named
         }
-        Event::Head { guest, cpuid, .. } => {
+        Event::Head { guest, cpuid, .. } | Event::Hit { guest, cpuid, .. } => {
             vec![("guest", guest as usize), ("cpu", cpuid as usize)]
         }
         Event::Raise { devhandle, devino } => named_by_raise(host, devhandle, devino),

@@ -1,5 +1,6 @@
 //! The session program: lines in, one line out for each.
 
+use crate::hits::Hit;
 use crate::image::Fault;
 use crate::model::{Event, Host, Outcome, Status};
 use crate::tables::RealAddress;
@@ -127,6 +128,7 @@ fn parse_event<'a>(word: &[u8], words: impl Iterator<Item = &'a [u8]>) -> Option
         count += 1;
     }
     let [a, b, c, d, arguments @ ..] = fields;
+    let [e, f, ..] = arguments;
     match (word, count) {
         (b"call", 4..) => Some(Event::Call {
             guest: a,
@@ -153,6 +155,16 @@ fn parse_event<'a>(word: &[u8], words: impl Iterator<Item = &'a [u8]>) -> Option
             guest: a,
             address: RealAddress(b),
             value: c,
+        }),
+        (b"hit", 6) => Some(Event::Hit {
+            guest: a,
+            cpuid: b,
+            hit: Hit {
+                side: c,
+                context: d,
+                index: e,
+                ticks: f,
+            },
         }),
         _ => None,
     }
