@@ -6,6 +6,7 @@ mod draft;
 mod examples;
 mod fault_kinds;
 mod faults;
+mod hits;
 mod readings;
 mod resent;
 mod resent_kinds;

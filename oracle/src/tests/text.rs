@@ -90,7 +90,17 @@ Load 0 0 -> bad
 LOAD 0 0 -> bad
 load,0 0 -> bad
 lode 0 0 -> bad
-load 0 0 -> 0",
+load 0 0 -> 0
+Hit 0 0 0 0 0 0 -> bad
+HIT 0 0 0 0 0 0 -> bad
+hits 0 0 0 0 0 0 -> bad
+hi 0 0 0 0 0 0 -> bad
+hit0 0 0 0 0 0 0 -> bad
+hit 0 0 0  0 0 0 -> bad
+ hit 0 0 0 0 0 0 -> bad
+hit 0 0 0 0 0 0  -> bad
+hit\t0 0 0 0 0 0 -> bad
+hit 0 0 0 0 0 0 -> 0",
     );
     for line in [
         b"load 0 0\r".as_slice(),
@@ -116,7 +126,13 @@ load 0 g -> bad
 store 0 0 aBcDeF -> 0
 load 0 0 -> 0 abcdef 0 0 0
 store 0 0 FFFFFFFFFFFFFFFF -> 0
-load 0 0 -> 0 ffffffffffffffff 0 0 0",
+load 0 0 -> 0 ffffffffffffffff 0 0 0
+hit 0 0 0 0 0 FFFFFFFFFFFFFFFF -> 0
+hit 0 0 0 0 0 00000000000000000 -> bad
+hit 0 0 0 0 00000000000000000 0 -> bad
+hit 0 0 0 0 5 0x5 -> bad
+hit 0 0 g 0 0 0 -> bad
+hit 0 0 0 -1 0 0 -> bad",
     );
 }
 
@@ -138,6 +154,15 @@ load 0 -> bad
 load 0 0 0 -> bad
 store 0 0 -> bad
 store 0 0 0 -> 0
-store 0 0 0 0 -> bad",
+store 0 0 0 0 -> bad
+hit -> bad
+hit 0 -> bad
+hit 0 0 -> bad
+hit 0 0 0 -> bad
+hit 0 0 0 0 -> bad
+hit 0 0 0 0 0 -> bad
+hit 0 0 0 0 0 0 -> 0
+hit 0 0 0 0 0 0 0 -> bad
+hit 0 0 0 0 0 0 0 0 0 0 -> bad",
     );
 }
