@@ -4,6 +4,7 @@
 //! the bounds of the state that the session has reached.
 
 mod call_steps;
+mod hit_steps;
 mod image_steps;
 mod limit_steps;
 mod malformed;
@@ -54,7 +55,7 @@ const EDGE_NUMBERS: [u64; 24] = [
 type Step = fn(&mut Generator);
 
 /// What happens on a sound partition, and how often.
-const STEPS: [(u64, Step); 22] = [
+const STEPS: [(u64, Step); 23] = [
     (7, Generator::mondo_step),
     (7, Generator::resend_step),
     (14, Generator::head_step),
@@ -66,6 +67,7 @@ const STEPS: [(u64, Step); 22] = [
     (3, Generator::target_step),
     (2, Generator::tsb_step),
     (4, Generator::statistics_step),
+    (10, Generator::hit_step),
     (2, Generator::scrub_step),
     (8, Generator::word_step),
     (1, Generator::sweep_step),

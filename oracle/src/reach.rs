@@ -2,6 +2,7 @@
 //! extents that its accepted lines name, for each kind of line.
 
 use crate::coverage::kind;
+use crate::hits::Hit;
 use crate::model::{Event, Host};
 use crate::queues::SENT;
 use crate::session::{self, parse, Line};
@@ -58,8 +59,15 @@ fn named(host: &Host, event: &Event) -> Named {
             }
             named
         }
-        Event::Head { guest, cpuid, .. } | Event::Hit { guest, cpuid, .. } => {
+        Event::Head { guest, cpuid, .. } => {
             vec![("guest", guest as usize), ("cpu", cpuid as usize)]
+        }
+        Event::Hit { guest, cpuid, hit } => {
+            let mut named = vec![("guest", guest as usize), ("cpu", cpuid as usize)];
+            if let Some(guest) = host.tables.guests.get(guest as usize) {
+                named.extend(named_by_hit(guest, cpuid, &hit));
+            }
+            named
         }
         Event::Raise { devhandle, devino } => named_by_raise(host, devhandle, devino),
         Event::Load { guest, address } | Event::Store { guest, address, .. } => {
@@ -141,6 +149,18 @@ fn areas(guest: &Guest, memory: &[u8], ntsb: u64, pointer: u64) -> Named {
     let areas = tsb_areas(guest, memory, ntsb, pointer).into_iter();
     let pieces = areas.map(|(start, length)| guest.pieces(RealAddress(start), length));
     pieces.map(|pieces| ("area", pieces.count())).collect()
+}
+
+/// The extent of the words that are counted in, and the pieces of the buffer.
+fn named_by_hit(guest: &Guest, cpuid: u64, hit: &Hit) -> Named {
+    let Some(cpu) = guest.cpu_numbered(cpuid).map(|cpuid| &guest.cpus[cpuid]) else {
+        return Named::new();
+    };
+    let place = hit.place().filter(|_| cpu.statistics != 0);
+    let extent = place.and_then(|place| extent(guest, cpu.statistics + place));
+    let pieces = guest.pieces(RealAddress(cpu.statistics), 512).count();
+    let pieces = place.map(|_| ("pieces", pieces));
+    extent.into_iter().chain(pieces).collect()
 }
 
 fn named_by_raise(host: &Host, devhandle: u64, devino: u64) -> Named {

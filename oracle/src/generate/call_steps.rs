@@ -6,8 +6,12 @@ use crate::tables::Group;
 
 impl Generator {
     /// Most guests negotiate most groups, in any order; then rings and sources.
+    /// A hit asks for no group.
     pub(super) fn prepare(&mut self) {
         for guest in 0..self.host.tables.guests.len() {
+            if self.random.one_in(4) {
+                self.hit_new(guest);
+            }
             let mut groups = [(0, 1), (1, 1), (2, self.random.pick(&[1, 2])), (0x200, 1)];
             self.random.shuffle(&mut groups);
             for (group, major) in groups {
@@ -140,7 +144,7 @@ impl Generator {
         let (guest, cpu) = self.someone();
         let (guest_number, cpu) = (guest as u64, cpu as u64);
         let address = self.inside(guest, 8);
-        let mut line = match self.random.below(5) {
+        let mut line = match self.random.below(6) {
             0 => {
                 let fields = [guest_number, cpu, 0x80, 0x14, 0x3c, address, 2, 0, 0];
                 let count = self.random.pick(&[4, 5, 6, 7, 8, 9, 9]);
@@ -149,6 +153,7 @@ impl Generator {
             1 => self.line("head", &[guest_number, cpu, 0x3c, 0x40]),
             2 => self.line("raise", &[0x100, 5]),
             3 => self.line("load", &[guest_number, address]),
+            4 => self.line("hit", &[guest_number, cpu, 1, 1, 3, 5]),
             _ => self.line("store", &[guest_number, address, 0xbad]),
         };
         malformed::spoil(&mut line, &mut self.random);

@@ -8,7 +8,7 @@ impl Generator {
     /// A refused image leaves no guest, so that the next finds nothing, unless a
     /// sound one comes between them.
     pub(super) fn bad_images(&mut self) {
-        for _ in 0..15 + self.random.below(30) {
+        for _ in 0..20 + self.random.below(40) {
             let reloaded = !self.last_image.is_empty() && self.random.one_in(8);
             if reloaded {
                 self.image(&self.last_image.clone());
@@ -116,13 +116,17 @@ impl Generator {
         for _ in 0..self.random.below(most) {
             let guest = self.random.pick(&[0, 0, 0, 1, 2, 3, 4, u64::MAX]);
             let cpuid = self.random.pick(&[0, 0, 1, 8]);
-            match self.random.below(7) {
+            match self.random.below(8) {
                 0 => self.event("call", &[guest, cpuid, 0xff, 0, 1, 1, 0]),
                 1 => self.event("call", &[guest, cpuid, 0x80, 0x16]),
                 2 => self.event("head", &[guest, cpuid, 0x3c, 0]),
                 3 => self.event("raise", &[0x100, 5]),
                 4 => self.event("load", &[guest, 0]),
                 5 => self.event("store", &[guest, 8, 0x1234]),
+                6 => {
+                    let mark = self.random.pick(&[0, 1, 2]);
+                    self.event("hit", &[guest, cpuid, mark, 0, 0, 5]);
+                }
                 _ if self.host.tables.guests.is_empty() => self.event("raise", &[0, 0]),
                 _ => drop(self.raise(0)),
             }

@@ -78,6 +78,7 @@ pub fn special(random: &mut Random) -> Vec<u8> {
                 b"call ",
                 b"raise",
                 b"load ",
+                b"hit",
             ])
             .to_vec(),
         5 => padded(b"image 11", b' ', LINE_LIMIT + 1),
@@ -97,6 +98,7 @@ pub fn special(random: &mut Random) -> Vec<u8> {
                 b"raise 100",
                 b"load 0",
                 b"store 0 0",
+                b"hit 0 0 0 0 0",
             ])
             .to_vec(),
         12 => {
@@ -105,6 +107,7 @@ pub fn special(random: &mut Random) -> Vec<u8> {
                 b"head 0 0 3c 0 0",
                 b"load 0 0 0",
                 b"store 0 0 0 0",
+                b"hit 0 0 0 0 0 0 0",
             ];
             random.pick(&longer).to_vec()
         }
@@ -176,7 +179,8 @@ fn replace_word(line: &mut Vec<u8>, random: &mut Random) {
         .position(|&byte| byte == b' ')
         .unwrap_or(line.len());
     let words = [
-        "", "cal", "calls", "heads", "hea", "raised", "loads", "stor", "stored", "load", "quit",
+        "", "cal", "calls", "heads", "hea", "raised", "loads", "stor", "stored", "load", "hits",
+        "quit",
     ];
     line.splice(..end, random.pick(&words).bytes());
 }

@@ -9,7 +9,7 @@ use std::collections::BTreeSet;
 use std::ops::Range;
 
 /// The statuses of each kind of line, without those of the entry.
-const LISTED: [(&str, &str); 41] = [
+const LISTED: [(&str, &str); 58] = [
     ("image", "0 6e 6f 70 71 72 73 74"),
     ("bad", "bad"),
     ("call other", "7"),
@@ -51,15 +51,33 @@ const LISTED: [(&str, &str); 41] = [
     ("raise to 2", "0"),
     ("load", "0 2 8"),
     ("store", "0 2 8"),
+    ("hit 0", "0"),
+    ("hit 10", "0"),
+    ("hit 30", "0"),
+    ("hit 50", "0"),
+    ("hit 80", "0"),
+    ("hit 90", "0"),
+    ("hit b0", "0"),
+    ("hit d0", "0"),
+    ("hit 100", "0"),
+    ("hit 110", "0"),
+    ("hit 130", "0"),
+    ("hit 150", "0"),
+    ("hit 180", "0"),
+    ("hit 190", "0"),
+    ("hit 1b0", "0"),
+    ("hit 1d0", "0"),
+    ("hit other", "6"),
 ];
 
 /// The statuses of the entry to each event.
-const ENTRY: [(&str, &str); 5] = [
+const ENTRY: [(&str, &str); 6] = [
     ("call", "66 67"),
     ("head", "66 67"),
     ("raise", "66 68"),
     ("load", "66 67"),
     ("store", "66 67"),
+    ("hit", "66 67"),
 ];
 
 /// What no session of 32 KiB shows: 101, since no line leads to tables that
@@ -74,7 +92,8 @@ const LENT_PAGES: usize = 4;
 const PIECES: Range<usize> = 1..LENT_PAGES + 1;
 
 /// The numbers of guests, cpus and the like that the accepted lines of a
-/// generated session name, besides guest and cpu of every call and head write.
+/// generated session name, besides guest and cpu of every call, head write and
+/// hit.
 const NUMBERS: [(&str, &str, Range<usize>); 31] = [
     ("call 80/14", "queue", 0..4),
     ("call 80/15", "queue", 0..4),
@@ -110,7 +129,7 @@ const NUMBERS: [(&str, &str, Range<usize>); 31] = [
 ];
 
 /// Those of the long session.
-const WRITTEN: [(&str, &str, Range<usize>); 20] = [
+const WRITTEN: [(&str, &str, Range<usize>); 24] = [
     ("call 80/14", "cpu", 0..8),
     ("call 80/14", "queue", 0..4),
     ("call 80/14", "extent", 0..LENT_PAGES),
@@ -131,6 +150,10 @@ const WRITTEN: [(&str, &str, Range<usize>); 20] = [
     ("store", "extent", 0..LENT_PAGES),
     ("raise to 2", "guest", 3..4),
     ("raise to 2", "source", 13..16),
+    ("hit 0", "guest", 0..4),
+    ("hit 0", "cpu", 0..8),
+    ("hit 1d0", "extent", 0..2),
+    ("hit 1d0", "pieces", 1..3),
 ];
 
 #[test]
@@ -158,7 +181,7 @@ fn a_generated_session_reaches_every_status() {
 fn a_generated_session_reaches_every_number() {
     let reach = reach_of(&generated(1, 200_000).expect("memory"));
     for (kind, statuses) in LISTED {
-        if matches!(word(kind), "call" | "head") && statuses.starts_with('0') {
+        if matches!(word(kind), "call" | "head" | "hit") && statuses.starts_with('0') {
             check_numbers(&reach, kind, "guest", 0..4);
             check_numbers(&reach, kind, "cpu", 0..8);
         }
@@ -168,6 +191,12 @@ fn a_generated_session_reaches_every_number() {
     }
     for (kind, what, numbers) in NUMBERS {
         check_numbers(&reach, kind, what, numbers);
+    }
+    for (kind, statuses) in LISTED {
+        if word(kind) == "hit" && statuses.starts_with('0') {
+            check_numbers(&reach, kind, "extent", 0..LENT_PAGES);
+            check_numbers(&reach, kind, "pieces", 1..3);
+        }
     }
 }
 
