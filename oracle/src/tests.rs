@@ -6,6 +6,7 @@ mod draft;
 mod examples;
 mod fault_kinds;
 mod faults;
+mod hit_kinds;
 mod hits;
 mod readings;
 mod resent;

@@ -19,31 +19,32 @@ fn place([side, context, index]: Kind) -> u64 {
 impl Generator {
     pub(super) fn hit_step(&mut self) {
         let who = self.someone_rather(|guest| guest.major(Group::Statistics) != 0);
-        match self.random.below(20) {
+        match self.random.below(24) {
             0..=3 => self.hit_some(who),
             4..=6 => self.hit_and_wrap(who),
             7..=9 => self.hit_unset(who),
             10..=12 => self.hit_badly(who),
             13 | 14 => self.hit_shared(who),
-            15 | 16 => self.hit_over_ring(),
-            17 => self.hit_over_list(who),
-            18 => self.hit_over_descriptor(who),
+            15 | 16 => self.hit_neighbours(),
+            17 | 18 => self.hit_over_ring(),
+            19 | 20 => self.hit_over_list(who),
+            21 | 22 => self.hit_over_descriptor(who),
             _ => self.hit_every_row(who),
         }
     }
 
-    pub(super) fn hit(&mut self, who: (usize, usize), kind: Kind, ticks: u64) {
+    fn hit(&mut self, who: (usize, usize), kind: Kind, ticks: u64) {
         let [side, context, index] = kind;
         let [guest, cpu] = [self.guest_number(who.0), self.cpu_number(who)];
         self.event("hit", &[guest, cpu, side, context, index, ticks]);
     }
 
-    pub(super) fn hit_kind(&mut self) -> Kind {
+    fn hit_kind(&mut self) -> Kind {
         let [side, context] = [0; 2].map(|_: u64| self.random.below(2));
         [side, context, self.random.pick(&PAGE_INDICES)]
     }
 
-    pub(super) fn hit_ticks(&mut self) -> u64 {
+    fn hit_ticks(&mut self) -> u64 {
         match self.random.below(4) {
             0 => self.edge_number(),
             1 => self.random.next(),
@@ -72,8 +73,8 @@ impl Generator {
         let (start, size) = self.some_row(guest);
         let last = start + size - BUFFER_SIZE;
         match (self.random.below(4), self.some_seam(guest)) {
-            (0 | 1, Some(seam)) => seam - 64 * (1 + self.random.below(7)),
-            (2, _) => last,
+            (0..=2, Some(seam)) => seam - 64 * (1 + self.random.below(7)),
+            (0, None) => last,
             _ => last - 64 * self.random.below((last - start) / 64 + 1),
         }
     }
@@ -95,7 +96,7 @@ impl Generator {
         }
     }
 
-    fn hit_and_look(&mut self, who: (usize, usize), buffer: u64) {
+    pub(super) fn hit_and_look(&mut self, who: (usize, usize), buffer: u64) {
         let (kind, ticks) = (self.hit_kind(), self.hit_ticks());
         self.hit(who, kind, ticks);
         self.look_at_hit(who.0, buffer, kind);
@@ -182,47 +183,52 @@ impl Generator {
         self.look_at_hit(who.0, other, kind);
     }
 
-    /// With an address or without; also where there is no such guest or cpu.
+    /// Many, with an address or without; also where there is no such guest or
+    /// cpu.
     fn hit_badly(&mut self, who: (usize, usize)) {
-        if self.random.one_in(3) {
+        if self.random.one_in(2) {
             self.call(who, 0x102, &[0]);
         } else {
             self.ready_buffer(who);
         }
-        let buffer = self.buffer(who);
-        let kind = self.hit_kind();
-        let mut bad = kind;
-        for _ in 0..self.random.pick(&[1, 1, 2]) {
-            self.spoil_hit(&mut bad);
+        let mut kind = self.hit_kind();
+        for _ in 0..6 + self.random.below(6) {
+            kind = self.hit_kind();
+            let bad = self.bad_kind(kind);
+            let ticks = self.hit_ticks();
+            match self.random.one_in(6) {
+                true => self.hit_nobody(who.0, bad, ticks),
+                false => self.hit(who, bad, ticks),
+            }
         }
-        let ticks = self.hit_ticks();
-        if self.random.one_in(4) {
-            return self.hit_nobody(who.0, bad, ticks);
-        }
-        self.hit(who, bad, ticks);
-        self.look_at_hit(who.0, buffer, kind);
+        self.look_at_hit(who.0, self.buffer(who), kind);
     }
 
     fn hit_nobody(&mut self, guest: usize, [side, context, index]: Kind, ticks: u64) {
         let guests = self.host.tables.guests.len() as u64;
         let cpus = self.guest(guest).cpus.len() as u64;
-        let nobody = [(guests, 0), (guest as u64, cpus), (guest as u64, 1 << 32)];
+        let guest = guest as u64;
+        let nobody = [(guests, 0), (guest, cpus), (guest, 1 << 32)];
         let (guest, cpu) = self.random.pick(&nobody);
         self.event("hit", &[guest, cpu, side, context, index, ticks]);
     }
 
-    /// Bits above a number that is right, or a number beside the right ones.
-    fn spoil_hit(&mut self, kind: &mut Kind) {
-        let field = self.random.index(3);
-        let wide = [8, 16, 32, 63].map(|bit| kind[field] | 1 << bit);
-        let others: &[u64] = match field {
-            2 => &[2, 2, 4, 4, 6, 7, 8, 0x10, 0x2b, u64::MAX],
-            _ => &[2, 2, 3, 4, 5, 0x80, 0x100, 1 << 63, u64::MAX],
-        };
-        kind[field] = match self.random.one_in(2) {
-            true => self.random.pick(&wide),
-            false => self.random.pick(others),
-        };
+    /// Bits above a number that is right, or a number beside the right ones; now
+    /// and then of two.
+    fn bad_kind(&mut self, mut kind: Kind) -> Kind {
+        for _ in 0..self.random.pick(&[1, 1, 1, 2]) {
+            let field = self.random.index(3);
+            let wide = [8, 16, 32, 63].map(|bit| kind[field] | 1 << bit);
+            let others: &[u64] = match field {
+                2 => &[2, 2, 4, 4, 6, 6, 7, 8, 0x10, 0x2b, u64::MAX, u64::MAX],
+                _ => &[2, 2, 3, 4, 5, 0x80, u64::MAX, u64::MAX],
+            };
+            kind[field] = match self.random.one_in(2) {
+                true => self.random.pick(&wide),
+                false => self.random.pick(others),
+            };
+        }
+        kind
     }
 
     // Buffers over something else.
@@ -241,6 +247,42 @@ impl Generator {
             self.hit_and_look(other, self.buffer(other));
             self.hit_and_look(who, buffer);
         }
+    }
+
+    /// Two guests at one address.
+    fn hit_neighbours(&mut self) {
+        let Some((guests, address)) = self.common_address() else {
+            return self.hit_some(self.favourite);
+        };
+        let both = guests.map(|guest| self.someone_of(guest));
+        for who in both {
+            self.call(who, 0x102, &[address]);
+        }
+        let kind = self.hit_kind();
+        for who in both {
+            let ticks = self.hit_ticks();
+            self.hit(who, kind, ticks);
+            self.look_at_hit(guests[0], address, kind);
+            self.look_at_hit(guests[1], address, kind);
+        }
+    }
+
+    /// An address at which two guests have room for a buffer.
+    fn common_address(&mut self) -> Option<([usize; 2], u64)> {
+        let rows = self.rows();
+        let mut found = Vec::new();
+        for (place, first) in rows.iter().enumerate() {
+            for second in rows[place + 1..].iter().filter(|r| r.guest != first.guest) {
+                let start = first.start.max(second.start);
+                let end = first.end.min(second.end);
+                if start + BUFFER_SIZE < end {
+                    found.push(([first.guest, second.guest], start, end));
+                }
+            }
+        }
+        let &(guests, start, end) = found.get(self.random.index(found.len()))?;
+        let places = (end - start - BUFFER_SIZE) / 64;
+        Some((guests, end - BUFFER_SIZE - 64 * self.random.below(places)))
     }
 
     /// Where the next entry of a ring is, and one before it. Hits, an entry

@@ -138,6 +138,9 @@ impl Generator {
         let before = 64 * (1 + self.random.below(7));
         self.call(who, 0x102, &[seam - before]);
         self.call(who, 0x103, &[]);
+        for _ in 0..self.random.below(4) {
+            self.hit_and_look(who, seam - before);
+        }
     }
 
     /// A list of which a descriptor, or the border of two, lies at the seam.
@@ -226,13 +229,13 @@ impl Generator {
     // Ranges that leave their row.
 
     fn leave_row(&mut self, who: (usize, usize), row: &Row) {
-        match self.random.below(8) {
-            0 => self.pages_out(who, row),
-            1 | 2 => self.pages_round(who, row),
-            3 => self.statistics_out(who, row),
-            4 => self.descriptors_out(who, row),
-            5 => self.list_out(who, row),
-            6 => self.ring_out(who, row),
+        match self.random.below(9) {
+            0 | 1 => self.pages_out(who, row),
+            2 | 3 => self.pages_round(who, row),
+            4 => self.statistics_out(who, row),
+            5 => self.descriptors_out(who, row),
+            6 => self.list_out(who, row),
+            7 => self.ring_out(who, row),
             _ => self.area_out(who, row),
         }
     }
