@@ -39,7 +39,12 @@ const SOURCES: u64 = 16;
 /// Each takes a mondo of every send; cpu 0 sends.
 const RECEIVERS: u64 = 4;
 const RING: u64 = 64;
+/// Every row once for each cpu, of which the last has no buffer.
+const HITS: u64 = 16 * (RECEIVERS + 1);
 const ENTRY: u64 = 64;
+
+/// Hits of which the side, the context or the page index is none.
+pub const HITS_REFUSED: [&str; 3] = ["hit 0 0 2 1 3 7", "hit 0 1 1 2 3 7", "hit 0 4 1 1 4 7"];
 
 /// The send that is left and sent again, known by its data.
 pub const SENT_TWICE: &str = "call 0 0 80 42 4 0 240";
@@ -50,6 +55,7 @@ pub fn kind(name: &str) -> Option<Kind> {
         "raise" => (PLAIN, raises),
         "mondo" => (PLAIN, mondos),
         "seams" => (TOUCHING, seams),
+        "hit" => (TOUCHING, hits),
         _ => return None,
     };
     Some(Kind { layout, cycle })
@@ -132,6 +138,28 @@ fn mondos(number: u64) -> String {
         "head 0 1 3c {head:x}\nhead 0 2 3c {head:x}\n{store}{SENT_TWICE}
 head 0 3 3c {head:x}\nhead 0 4 3c {head:x}\n{SENT_TWICE}\n"
     )
+}
+
+/// Hits in buffers of four cpus, two of them over seams, and on one without an
+/// address, each row in its turn; then three that are refused, and a look at two
+/// words. The buffers move in each cycle.
+fn hits(number: u64) -> String {
+    let off = ENTRY * (number % 8);
+    let buffers = [0x400, 0x1e00, 0x3e00, 0x6800].map(|base| base + off);
+    let mut text = String::new();
+    for (cpu, buffer) in buffers.iter().enumerate() {
+        text += &format!("call 0 {cpu} 80 102 {buffer:x}\n");
+    }
+    for hit in 0..HITS {
+        let (side, context) = (hit / 4 % 2, hit / 8 % 2);
+        let index = [0, 1, 3, 5][hit as usize % 4];
+        let ticks = 0x10 + (number + hit) % 0x400;
+        let cpu = hit / 16 % (RECEIVERS + 1);
+        text += &format!("hit 0 {cpu} {side} {context} {index} {ticks:x}\n");
+    }
+    let read = buffers[number as usize % 4] + 0x10 * (number % 32);
+    let refused = HITS_REFUSED.join("\n");
+    text + &format!("{refused}\nload 0 {read:x}\nload 0 {:x}\n", read + 8)
 }
 
 /// Where the ranges of a mix lie.

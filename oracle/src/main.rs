@@ -24,7 +24,7 @@ const BUFFER: usize = 1 << 16;
 const USAGE: &str = "usage: oracle
        oracle generate --seed S --lines N
        oracle coverage --seed S --lines N
-       oracle bench-session mix|raise|mondo|seams --lines N";
+       oracle bench-session mix|raise|mondo|seams|hit --lines N";
 
 fn main() -> ExitCode {
     let arguments: Vec<String> = std::env::args().skip(1).collect();

@@ -27,10 +27,11 @@ fn bench_session(kind: &str, lines: u64) -> Vec<(String, String)> {
 
 #[test]
 fn every_raise_and_mondo_of_a_bench_session_is_delivered() {
-    for kind in ["mix", "raise", "mondo", "seams"] {
+    for kind in ["mix", "raise", "mondo", "seams", "hit"] {
         for (line, answer) in bench_session(kind, 20_000) {
             let slip = line.contains("a8 200 5") || line.contains("14 3c 40 2");
-            let refused = slip || line == bench::SENT_TWICE;
+            let hit = bench::HITS_REFUSED.contains(&line.as_str());
+            let refused = slip || hit || line == bench::SENT_TWICE;
             assert!(refused || answer.starts_with('0'), "{line}: {answer}");
             assert!(
                 !line.starts_with("raise") || answer == "0 2 0 0 0",
@@ -38,6 +39,19 @@ fn every_raise_and_mondo_of_a_bench_session_is_delivered() {
             );
         }
     }
+}
+
+#[test]
+fn the_hits_of_a_bench_session_are_counted() {
+    let mut session = bench_session("hit", 20_000);
+    let refused = |line: &str| bench::HITS_REFUSED.contains(&line);
+    for (line, answer) in &session {
+        assert!(!refused(line) || answer == "6 0 0 0 0", "{line}: {answer}");
+    }
+    session.retain(|(line, _)| line.starts_with("load"));
+    let read = session.len();
+    session.retain(|(_, answer)| answer != "0 0 0 0 0");
+    assert!(2 * session.len() > read, "{} of {read}", session.len());
 }
 
 #[test]
