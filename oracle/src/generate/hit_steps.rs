@@ -40,7 +40,7 @@ impl Generator {
     }
 
     fn hit_kind(&mut self) -> Kind {
-        let [side, context] = [0; 2].map(|_: u64| self.random.below(2));
+        let (side, context) = (self.random.below(2), self.random.below(2));
         [side, context, self.random.pick(&PAGE_INDICES)]
     }
 
@@ -183,18 +183,26 @@ impl Generator {
         self.look_at_hit(who.0, other, kind);
     }
 
-    /// Many, with an address or without; also where there is no such guest or
-    /// cpu.
+    /// Each number bad in each way, with an address or without; also where there
+    /// is no such guest or cpu.
     fn hit_badly(&mut self, who: (usize, usize)) {
         if self.random.one_in(2) {
             self.call(who, 0x102, &[0]);
         } else {
             self.ready_buffer(who);
         }
+        let mut ways: Vec<usize> = (0..9).collect();
+        self.random.shuffle(&mut ways);
         let mut kind = self.hit_kind();
-        for _ in 0..6 + self.random.below(6) {
+        for way in ways {
             kind = self.hit_kind();
-            let bad = self.bad_kind(kind);
+            let mut bad = kind;
+            self.spoil_hit(&mut bad, way % 3, way / 3);
+            // A second one.
+            if self.random.one_in(6) {
+                let field = self.random.index(3);
+                self.spoil_hit(&mut bad, field, 1);
+            }
             let ticks = self.hit_ticks();
             match self.random.one_in(6) {
                 true => self.hit_nobody(who.0, bad, ticks),
@@ -213,22 +221,19 @@ impl Generator {
         self.event("hit", &[guest, cpu, side, context, index, ticks]);
     }
 
-    /// Bits above a number that is right, or a number beside the right ones; now
-    /// and then of two.
-    fn bad_kind(&mut self, mut kind: Kind) -> Kind {
-        for _ in 0..self.random.pick(&[1, 1, 1, 2]) {
-            let field = self.random.index(3);
-            let wide = [8, 16, 32, 63].map(|bit| kind[field] | 1 << bit);
-            let others: &[u64] = match field {
-                2 => &[2, 2, 4, 4, 6, 6, 7, 8, 0x10, 0x2b, u64::MAX, u64::MAX],
-                _ => &[2, 2, 3, 4, 5, 0x80, u64::MAX, u64::MAX],
-            };
-            kind[field] = match self.random.one_in(2) {
-                true => self.random.pick(&wide),
-                false => self.random.pick(others),
-            };
-        }
-        kind
+    /// Bits above a number that is right, a number beside the right ones, or the
+    /// highest.
+    fn spoil_hit(&mut self, kind: &mut Kind, field: usize, way: usize) {
+        let wide = [8, 16, 32, 63].map(|bit| kind[field] | 1 << bit);
+        let beside: &[u64] = match field {
+            2 => &[2, 2, 4, 4, 6, 6, 7, 8, 0x10, 0x2b],
+            _ => &[2, 2, 3, 4, 5, 0x80],
+        };
+        kind[field] = match way {
+            0 => self.random.pick(&wide),
+            1 => self.random.pick(beside),
+            _ => u64::MAX,
+        };
     }
 
     // Buffers over something else.

@@ -8,7 +8,7 @@ impl Generator {
     /// A refused image leaves no guest, so that the next finds nothing, unless a
     /// sound one comes between them.
     pub(super) fn bad_images(&mut self) {
-        for _ in 0..17 + self.random.below(34) {
+        for _ in 0..19 + self.random.below(38) {
             let reloaded = !self.last_image.is_empty() && self.random.one_in(8);
             if reloaded {
                 self.image(&self.last_image.clone());

@@ -33,7 +33,7 @@ pub fn spoil(line: &mut Vec<u8>, random: &mut Random) {
 
 /// Whole lines of their own, most of them about images.
 pub fn special(random: &mut Random) -> Vec<u8> {
-    match random.below(14) {
+    match random.below(16) {
         0 => random
             .pick(&[
                 b"image12".as_slice(),
@@ -98,7 +98,6 @@ pub fn special(random: &mut Random) -> Vec<u8> {
                 b"raise 100",
                 b"load 0",
                 b"store 0 0",
-                b"hit 0 0 0 0 0",
             ])
             .to_vec(),
         12 => {
@@ -107,12 +106,18 @@ pub fn special(random: &mut Random) -> Vec<u8> {
                 b"head 0 0 3c 0 0",
                 b"load 0 0 0",
                 b"store 0 0 0 0",
-                b"hit 0 0 0 0 0 0 0",
             ];
             random.pick(&longer).to_vec()
         }
+        13 | 14 => hit_of_other_length(random),
         _ => Vec::new(),
     }
+}
+
+/// Sound but for the number of its fields.
+fn hit_of_other_length(random: &mut Random) -> Vec<u8> {
+    let fields = random.pick(&[1, 2, 3, 4, 5, 5, 5, 5, 7, 7, 7, 8, 9, 10]);
+    [b"hit".to_vec(), b" 0".repeat(fields)].concat()
 }
 
 pub fn padded(line: &[u8], filler: u8, length: usize) -> Vec<u8> {
