@@ -5,15 +5,15 @@ use mathlib.Core.List.{List, [], _∷_}
 use Prim.Native.Nat.{ℕ, _+_}
 use Prim.Native.String.{String}
 use Rattle.rules.specs.Types.{Plant}
-use Rattle.rules.specs.Kept.{withStatistics}
+use Rattle.rules.specs.Kept.{plantAt, withPlant, withStatistics}
 use Rattle.rules.specs.Real.{Sight, Write, wordBytes}
 use Rattle.rules.specs.Rulings.{outcomeOf}
 use Rattle.rules.specs.Hits.{tsb-hit}
-use Rattle.rules.specs.Text.{bytesOf}
+use Rattle.rules.specs.Session.{Session}
 use Rattle.rules.proofs.Computing.{computing}
 use Rattle.rules.proofs.Worked.{workedGuest}
 use Rattle.rules.proofs.Changes.{comparing, statistics, word}
-use Rattle.rules.proofs.Sessions.{Exchange, _prints_, _prints_setting_, after, heard, Cases}
+use Rattle.rules.proofs.Sessions.{Exchange, _prints_, _prints_setting_, empty, after, heard, Cases}
 
 -- A row of 003's table, section 2.3: the side, the context and the page size of the TTE, and the offsets of its hits and ticks.
 pub record Entry : Type 0 where
@@ -73,8 +73,8 @@ table =
     ∷ []
 
 -- a plant whose cpu 1 has its buffer at 0x400, and a memory of zeros
-abbrev pub counting : Plant
-counting = withStatistics (workedGuest 2 0 0x100 .plant) 1 0x400
+abbrev pub buffered : Plant
+buffered = withStatistics (workedGuest 2 0 0x100 .plant) 1 0x400
 
 abbrev pub zeros : Sight
 zeros = record { valid = λ a n. true; byte = λ a. 0 }
@@ -82,7 +82,7 @@ zeros = record { valid = λ a n. true; byte = λ a. 0 }
 -- what a hit of 7 ticks writes there for each row: 1 at its hits and 7 at its ticks, and no more
 unfoldable pub written : List Entry → List (List Write)
 written [] = []
-written (e ∷ es) = outcomeOf counting (tsb-hit zeros counting 1 (e .side) (e .context) (e .index) 7) .writes ∷ written es
+written (e ∷ es) = outcomeOf buffered (tsb-hit zeros buffered 1 (e .side) (e .context) (e .index) 7) .writes ∷ written es
 
 unfoldable pub expected : List Entry → List (List Write)
 expected [] = []
@@ -108,6 +108,7 @@ hits =
     ∷ "hit 0 0 1 1 3 2" prints "0 0 0 0 0" setting (word 0x5b0 2 ∷ word 0x5b8 1 ∷ [])
     ∷ "store 0 5b0 ffffffffffffffff" prints "0 0 0 0 0" setting (word 0x5b0 0xffff_ffff_ffff_ffff ∷ [])
     ∷ "hit 0 0 1 1 3 ffffffffffffffff" prints "0 0 0 0 0" setting (word 0x5b0 0 ∷ word 0x5b8 0 ∷ [])
+    ∷ "hit 0 0 0 0 3 8000000000000000" prints "0 0 0 0 0" setting (word 0x430 1 ∷ word 0x438 0x8000_0000_0000_0000 ∷ [])
     -- no ticks: the hits word alone
     ∷ "hit 0 0 0 0 0 0" prints "0 0 0 0 0" setting (word 0x400 1 ∷ [])
     -- "EINVAL for a side, context mark or page index that isn't one of these", of 64 bits each
@@ -141,7 +142,7 @@ hits =
     ∷ "hit 0 0 0 0 1 3" prints "0 0 0 0 0"
     ∷ []
 
--- two pages that touch, the other way round on the host, and a buffer over their seam; no group but 0x200 is negotiated
+-- two pages that touch, the other way round on the host, and a buffer over their seam
 abbrev pub overSeam : List String
 overSeam = "image 11 140 0000000 0001 0001 0000001 0001 0000 0" ∷ "call 0 0 ff 0 200 1 0" ∷ "call 0 0 80 102 1e40" ∷ []
 
@@ -151,11 +152,25 @@ seamHits =
     ∷ "hit 0 0 1 1 5 c" prints "0 0 0 0 0" setting (word 0x10 1 ∷ word 0x18 0xc ∷ [])
     ∷ []
 
+-- No group is looked at: a buffer that is there without one, which no session leads to.
+abbrev pub ungrouped : Session → Session
+ungrouped s = record { tables = withPlant (s .tables) 0 (withStatistics (plantAt (s .tables) 0) 0 0x400); memory = s .memory }
+
+abbrev pub onePage : List String
+onePage = "image 11 120 0000000 0001 0000" ∷ []
+
+abbrev pub ungroupedHits : List Exchange
+ungroupedHits =
+    "call 0 0 80 103" prints "7 0 0 0 0"
+    ∷ "hit 0 0 1 0 1 d" prints "0 0 0 0 0" setting (word 0x510 1 ∷ word 0x518 0xd ∷ [])
+    ∷ []
+
 pub record HitCases : Type 0 where
   pub rows-of-003 : written table ≡ expected table
   pub at-one : Cases 16384 twoPlants hits
   pub seam : Cases 16384 overSeam seamHits
+  pub no-group : heard (ungrouped (after (empty 8192) onePage)) ungroupedHits ≡ ungroupedHits
 
 pub hit-cases : HitCases
 unfolding computing comparing after heard written expected
-hit-cases = record { rows-of-003 = refl; at-one = refl; seam = refl }
+hit-cases = record { rows-of-003 = refl; at-one = refl; seam = refl; no-group = refl }
