@@ -56,9 +56,13 @@ same-length c = search needs
 
 returns : tie.Need-returns
 returns c =
-    let sums = c .before .before .before .before .before .before .before .before .before .before .before in
-    both-written (c .before .before .before .before .before .before .before .before .before .before .before .before .before .before .before .before .before .args .extents) _ _ _ _ _ _ _ _ _ _ (sums .before .before .before .sum-at .ensures) (sums .sum-at2 .ensures)
-    (sums .before .before .word-bytes .ensures) (c .before .before .before .before .before .before .before .before .before .before .word-bytes2 .ensures) (c .before .before .before .before .before .before .before .write-at .ensures) (c .before .before .write-at2 .ensures)
+    let second = c .before .before in
+    let first = second .before .before .before .before .before in
+    let ticks = first .before .before .before in
+    let hits = ticks .before .before .before in
+    let s = hits .before .before .before .before in
+    both-written (s .args .extents) _ _ _ _ _ _ _ _ _ _ (hits .before .sum-at .ensures) (ticks .before .sum-at2 .ensures) (hits .word-bytes .ensures)
+    (ticks .word-bytes2 .ensures) (first .write-at .ensures) (second .write-at2 .ensures)
 
 pub count-spec : {M : Type 1} → statement M
 count-spec =

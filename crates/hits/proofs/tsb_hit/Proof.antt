@@ -38,17 +38,25 @@ returns-4 c = λ plant cpu o. search hit-none
 hits-offset-requires : tie.Need-hits-offset-requires
 hits-offset-requires c κs = (search needs, search needs, search index-most)
 
+-- how far back a test stands: the address, the index, the context and the side, then the start
 add-at : tie.Need-add-at
 add-at c =
-    let s = c .before .before .before .before .before .before .before in
-    let few = index-most _ _ (c .before .before .before .is-page-index .ensures) (c .before .before .if3 .left) in
-    omega (arith, few, c .hits-offset .ensures, range-ends (s .args .extents) _ _ 512 (s .good .0) (s .pre .1 .1 (c .before .if4 .left)) (omega arith))
+    let some = c .before in
+    let index = some .before in
+    let s = index .before .before .before .before .before in
+    let few = index-most _ _ (index .before .is-page-index .ensures) (index .if3 .left) in
+    omega (arith, few, c .hits-offset .ensures, range-ends (s .args .extents) _ _ 512 (s .good .0) (s .pre .1 .1 (some .if4 .left)) (omega arith))
 
 count-requires : tie.Need-count-requires
 count-requires c κs =
-    let s = c .before .before .before .before .before .before .before .before in
-    let few = index-most _ _ (c .before .before .before .before .is-page-index .ensures) (c .before .before .before .if3 .left) in
-    (s .pre .0, (s .pre .1 .0, row-valid (s .args .extents) _ _ _ _ _ (s .pre .1 .1) (c .before .before .if4 .left) (omega (arith, c .before .before .before .before .before .before .if1 .left)) (omega (arith, c .before .before .before .before .before .if2 .left)) few (ap (λ n. s .args .own .statistics + n) (c .before .hits-offset .ensures))))
+    let some = c .before .before in
+    let index = some .before in
+    let context = index .before .before in
+    let side = context .before in
+    let s = side .before .before in
+    let few = index-most _ _ (index .before .is-page-index .ensures) (index .if3 .left) in
+    let at = ap (λ n. s .args .own .statistics + n) (c .before .hits-offset .ensures) in
+    (s .pre .0, (s .pre .1 .0, row-valid (s .args .extents) _ _ _ _ _ (s .pre .1 .1) (some .if4 .left) (side .if1 .left) (context .if2 .left) few at))
 
 told-requires-5 : tie.Need-told-requires-5
 told-requires-5 c κs = search needs
@@ -58,9 +66,16 @@ same-length c = search needs
 
 returns-5 : tie.Need-returns-5
 returns-5 c = λ plant cpu o.
-    let s = c .before .before .before .before .before .before .before .before .before .before .before .before in
-    hit-counted (s .args .extents) _ _ _ _ _ _ _ plant cpu o (c .before .before .before .before .before .before .before .before .before .before .if1 .left) (c .before .before .before .before .before .before .before .before .before .if2 .left) _ (c .before .before .before .before .before .before .before .before .is-page-index .ensures) (c .before .before .before .before .before .before .before .if3 .left) (c .before .before .before .before .before .before .if4 .left) _
-    (ap (λ n. s .args .own .statistics + n) (c .before .before .before .before .before .hits-offset .ensures)) _ (c .before .before .before .count .ensures) (c .told5 .ensures)
+    let counted = c .before .before .before in
+    let offset = counted .before .before in
+    let some = offset .before in
+    let index = some .before in
+    let context = index .before .before in
+    let side = context .before in
+    let s = side .before .before in
+    let at = ap (λ n. s .args .own .statistics + n) (offset .hits-offset .ensures) in
+    hit-counted (s .args .extents) _ _ _ _ _ _ _ plant cpu o (side .if1 .left) (context .if2 .left) _ (index .before .is-page-index .ensures) (index .if3 .left)
+    (some .if4 .left) _ at _ (counted .count .ensures) (c .told5 .ensures)
 
 pub tsb-hit-spec : {M : Type 1} → statement M
 tsb-hit-spec =
