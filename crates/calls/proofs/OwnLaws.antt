@@ -59,12 +59,12 @@ target-below (Named.At i s) = place-below (s .target)
 
 pub cpu-below : (plant : Plant) (event : Event) → cpuOf plant event < cpuLimit
 unfolding cpuOf
-cpu-below plant (Event.Call c) = place-below (c .cpu)
-cpu-below plant (Event.Head h) = place-below (h .cpu)
+cpu-below plant (Event.Call c) = place-below _
+cpu-below plant (Event.Head h) = place-below _
 cpu-below plant (Event.Raise d) = target-below (namedIn plant (d .devhandle) (d .devino))
 cpu-below plant (Event.Load l) = omega arith
 cpu-below plant (Event.Store s) = omega arith
-cpu-below plant (Event.Hit t) = place-below (t .cpu)
+cpu-below plant (Event.Hit t) = place-below _
 
 -- c is what the code was told, and the record there is the event's
 module _ (plant : Plant) (event : Event) (c : ℕ) (p : c ≡ cpuOf plant event) where
