@@ -1,4 +1,6 @@
 // A field of a stream of bits: bytes as bits in a row, most significant bit first, across the borders of bytes.
+#![tactic(auto)]
+
 ghost use Rattle.std.specs.Prelude.{◌≡◌, ◌+◌, ◌-◌, ◌*◌, ◌/◌, ◌%◌, ◌^◌, ◌<◌, ◌≤◌, length};
 ghost use Rattle.rules.specs.Bits.{field_at};
 ghost use Rattle.bits.specs.Field.{field_of};

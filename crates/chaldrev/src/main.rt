@@ -1,4 +1,6 @@
 // The session program: a session on standard input and output.
+#![tactic(auto)]
+
 use console::{INPUT, MEMORY, Mode};
 
 fn main() {

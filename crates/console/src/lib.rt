@@ -1,5 +1,7 @@
 // A session on standard input and output, plain or explained. It answers what it has read before it waits for more. A read or a write
 // that fails is told on standard error and ends it: the line that has been begun is not carried out.
+#![tactic(auto)]
+
 mod explained;
 mod plain;
 

@@ -1,4 +1,6 @@
 // The lines of the planning desk's program: what each adds, and what they come to.
+#![tactic(auto)]
+
 mod draw;
 mod line;
 mod step;

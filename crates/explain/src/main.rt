@@ -1,4 +1,6 @@
 // The session program that explains: each line, its answer, and what the answer means.
+#![tactic(auto)]
+
 use console::{INPUT, MEMORY, Mode};
 
 fn main() {

@@ -1,4 +1,6 @@
 // A TSB hit on a cpu: it is counted in the buffer at the cpu's statistics address. No record changes.
+#![tactic(auto)]
+
 ghost use Rattle.std.specs.Prelude.{◌≡◌, ℕ, ◌+◌, ◌%◌, ◌^◌, ◌≤◌, true, [], ◌∷◌, length};
 ghost use Rattle.rules.specs.declared.Plant.{Plant as PlantRecord};
 ghost use Rattle.rules.specs.Limits.{extent_limit};

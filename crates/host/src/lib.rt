@@ -1,5 +1,7 @@
 // The host's rule: what every event gives, for tables and memory of any content. It goes in three steps, which a session that
 // keeps its tables takes one by one: the door (101, 102), the guest that answers (103, 104), and that guest's plant.
+#![tactic(auto)]
+
 mod door;
 mod owner;
 mod put;

@@ -1,4 +1,6 @@
 // The partition image: from bytes to tables.
+#![tactic(auto)]
+
 mod fill;
 mod guest;
 

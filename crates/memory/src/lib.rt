@@ -1,5 +1,7 @@
 // A guest's memory through its extents: which ranges are its own, where they lie on the host, and what is read and
 // written there.
+#![tactic(auto)]
+
 mod bounds;
 mod extents;
 mod guest;

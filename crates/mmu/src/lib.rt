@@ -1,4 +1,6 @@
 // The calls of the memory management unit: TSB lists, and the statistics address.
+#![tactic(auto)]
+
 mod statistics;
 mod tsb;
 

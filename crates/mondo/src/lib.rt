@@ -1,4 +1,6 @@
 // 0x42: a mondo to each cpu of a list.
+#![tactic(auto)]
+
 ghost use Rattle.std.specs.Prelude.{◌≡◌, true, false, ℕ, ◌*◌, ◌<◌, ◌≤◌, length, get_or, take};
 ghost use Rattle.rules.specs.Limits.{extent_limit};
 ghost use Rattle.rules.specs.Scan.{some_below};

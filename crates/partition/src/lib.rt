@@ -1,5 +1,7 @@
 // The image's rules that are tried after the last field, over tables. Each answers the place of the first fault, with no condition
 // on what it is given: extent k of the host is extent k % 7 of guest k / 7, and source k is source k % 16 of guest k / 16.
+#![tactic(auto)]
+
 ghost use Rattle.std.specs.Prelude.{◌≡◌, get_or};
 ghost use Rattle.rules.specs.Limits.{extent_limit};
 ghost use Rattle.rules.specs.Scan.{first_below, is_found};

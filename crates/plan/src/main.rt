@@ -1,5 +1,7 @@
 // The program plan: a plan or an image line on standard input, the other form on standard output. A read that fails is told on standard
 // error, and nothing is printed then.
+#![tactic(auto)]
+
 ghost use Rattle.std.specs.Prelude.{◌≡◌, ℕ, ◌≤◌, length};
 
 use plans::ROOM;

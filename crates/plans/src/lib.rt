@@ -1,4 +1,6 @@
 // The planning desk's program, on slices: its input in, its output out.
+#![tactic(auto)]
+
 mod image;
 mod line;
 mod plan;

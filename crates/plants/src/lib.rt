@@ -1,5 +1,7 @@
 // What every call of a plant stands on: what it gives back, what that makes of the plant's record, and an entry put into a ring.
 // A call that reaches memory takes it lent. It reads the plant's record, and tells what it changes of it.
+#![tactic(auto)]
+
 mod change;
 mod parts;
 mod rings;

@@ -1,4 +1,6 @@
 // Queues: 0x14, 0x15, 0x16 and the head write.
+#![tactic(auto)]
+
 ghost use Rattle.std.specs.Prelude.{◌≡◌, ℕ, ◌≤◌, ◌<◌, ◌-◌};
 ghost use Rattle.rules.specs.Limits.{cpu_limit, extent_limit, queue_limit};
 ghost use Rattle.rules.specs.Rulings.{outcome_of};

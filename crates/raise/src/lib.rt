@@ -1,4 +1,6 @@
 // Raise: a device interrupts.
+#![tactic(auto)]
+
 ghost use Rattle.std.specs.Prelude.{◌≡◌, ◌++◌, ◌<◌, length, replicate};
 ghost use Rattle.rules.specs.Kept.{cpu_at, source_at};
 ghost use Rattle.rules.specs.Real.{word_bytes};

@@ -1,4 +1,6 @@
 // Why a line of a session is bad, and what a status means, in words.
+#![tactic(auto)]
+
 mod fault;
 mod fields;
 mod image;

@@ -1,5 +1,7 @@
 // What a call asks of a record before it is kept. The calls that set a record and the check of the tables both ask here, so that
 // a record in the tables is "as its call would accept it". And each record as it is after loading.
+#![tactic(auto)]
+
 pub mod blank;
 
 ghost use Rattle.std.specs.Prelude.{◌≡◌, ◌/◌, ◌%◌, ◌^◌, ◌≤◌, ◌<◌};

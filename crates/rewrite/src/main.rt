@@ -1,5 +1,7 @@
 // Loads the image of each line of standard input, and prints the image that its tables are written as. For bench/run, and for the gate, in
 // which every accepted image has to come back as it went in. A refused image prints what loading answers, any other line `bad`.
+#![tactic(auto)]
+
 ghost use Rattle.std.specs.Prelude.{◌≡◌, ◌+◌, ◌*◌, ◌≤◌, length};
 
 use rules::{Loading, Tables, Writing};

@@ -2,6 +2,7 @@
 // them, stands in specs/, in the order of the paper.
 //
 // A list has the name of one of its elements, so that cpu[c] is cpu c. The plural counts how many are there, from the first on: cpus.
+#![tactic(auto)]
 
 pub mod widths;
 
@@ -22,28 +23,28 @@ pub const TSBS: usize = 4;
 pub const PAGE_SIZE: usize = 8192;
 
 // A real address, which a guest names, and an offset into the host's memory. Only an extent turns one into the other.
-#[derive(Drop)]
+#[derive(Clone, Copy)]
 pub struct Real(pub u64);
 
-#[derive(Drop)]
+#[derive(Clone, Copy)]
 pub struct Host(pub usize);
 
 // Where a real address lies on the host.
-#[derive(Drop)]
+#[derive(Clone, Copy)]
 pub enum Place {
     Nowhere,
     At(Host),
 }
 
 // A position in a list.
-#[derive(Drop)]
+#[derive(Clone, Copy)]
 pub enum Found {
     Nothing,
     At(usize),
 }
 
 // Real pages real .. real + count are host pages host .. host + count.
-#[derive(Drop)]
+#[derive(Clone, Copy)]
 pub struct Extent {
     pub real: u32,
     pub count: u16,
@@ -51,14 +52,14 @@ pub struct Extent {
 }
 
 // The memory of a guest.
-#[derive(Drop)]
+#[derive(Clone, Copy)]
 pub struct Extents {
     pub extents: u8,
     pub extent: [Extent; EXTENTS],
 }
 
 // The ring of a queue: its first real address, and in bytes its size and the places of its head and tail.
-#[derive(Drop)]
+#[derive(Clone, Copy)]
 pub struct Ring {
     pub base: u64,
     pub size: u16,
@@ -67,19 +68,19 @@ pub struct Ring {
 }
 
 // A queue record is either unset or a ring.
-#[derive(Drop)]
+#[derive(Clone, Copy)]
 pub enum QueueRecord {
     Unset,
     Set(Ring),
 }
 
-#[derive(Drop)]
+#[derive(Clone, Copy)]
 pub struct Queue {
     pub held: QueueRecord,
 }
 
 // A TSB descriptor as it is kept: all of it but the reserved word.
-#[derive(Drop)]
+#[derive(Clone, Copy)]
 pub struct Tsb {
     pub index: u16,
     pub associativity: u16,
@@ -90,14 +91,14 @@ pub struct Tsb {
 }
 
 // A TSB list.
-#[derive(Drop)]
+#[derive(Clone, Copy)]
 pub struct Tsbs {
     pub tsbs: u8,
     pub tsb: [Tsb; TSBS],
 }
 
 // Queues 0x3c to 0x3f, the TSB lists for context 0 and the other contexts, and the statistics address, 0 where there is none.
-#[derive(Drop)]
+#[derive(Clone, Copy)]
 pub struct Cpu {
     pub queue: [Queue; QUEUES],
     pub ctx0: Tsbs,
@@ -106,7 +107,7 @@ pub struct Cpu {
 }
 
 // An interrupt source. enabled is 0 or 1; state is 0 idle, 1 received, 2 delivered; target is the cpuid that it interrupts.
-#[derive(Drop)]
+#[derive(Clone, Copy)]
 pub struct Source {
     pub devhandle: u32,
     pub devino: u8,
@@ -118,7 +119,7 @@ pub struct Source {
 }
 
 // The negotiated major number of each API group (0, 1, 2 and 0x200), 0 where none is. The minor is always 0.
-#[derive(Drop)]
+#[derive(Clone, Copy)]
 pub struct Versions {
     pub sun4v: u8,
     pub core: u8,
@@ -127,7 +128,7 @@ pub struct Versions {
 }
 
 // All that a guest's calls can read or change, extents aside.
-#[derive(Drop)]
+#[derive(Clone, Copy)]
 pub struct Plant {
     pub versions: Versions,
     pub cpus: u8,
@@ -136,20 +137,20 @@ pub struct Plant {
     pub source: [Source; SOURCES],
 }
 
-#[derive(Drop)]
+#[derive(Clone, Copy)]
 pub struct Guest {
     pub extents: Extents,
     pub plant: Plant,
 }
 
-#[derive(Drop)]
+#[derive(Clone, Copy)]
 pub struct Tables {
     pub guests: u8,
     pub guest: [Guest; GUESTS],
 }
 
 // A call: its arguments are 0 where a caller has none to give.
-#[derive(Drop)]
+#[derive(Clone, Copy)]
 pub struct Call {
     pub guest: u64,
     pub cpu: u64,
@@ -162,7 +163,7 @@ pub struct Call {
     pub arg4: u64,
 }
 
-#[derive(Drop)]
+#[derive(Clone, Copy)]
 pub struct HeadWrite {
     pub guest: u64,
     pub cpu: u64,
@@ -170,19 +171,19 @@ pub struct HeadWrite {
     pub value: u64,
 }
 
-#[derive(Drop)]
+#[derive(Clone, Copy)]
 pub struct Device {
     pub devhandle: u64,
     pub devino: u64,
 }
 
-#[derive(Drop)]
+#[derive(Clone, Copy)]
 pub struct LoadAt {
     pub guest: u64,
     pub address: u64,
 }
 
-#[derive(Drop)]
+#[derive(Clone, Copy)]
 pub struct StoreAt {
     pub guest: u64,
     pub address: u64,
@@ -190,7 +191,7 @@ pub struct StoreAt {
 }
 
 // A hit in a TSB: side is 0 instruction, 1 data; context is 0 for context zero, 1 for another; index is the page size's.
-#[derive(Drop)]
+#[derive(Clone, Copy)]
 pub struct TsbHit {
     pub guest: u64,
     pub cpu: u64,
@@ -200,7 +201,7 @@ pub struct TsbHit {
     pub ticks: u64,
 }
 
-#[derive(Drop)]
+#[derive(Clone, Copy)]
 pub enum Event {
     Call(Call),
     Head(HeadWrite),
@@ -211,7 +212,7 @@ pub enum Event {
 }
 
 // The API groups 0, 1, 2 and 0x200.
-#[derive(Drop)]
+#[derive(Clone, Copy)]
 pub enum Group {
     Unknown,
     Sun4v,
@@ -221,7 +222,7 @@ pub enum Group {
 }
 
 // What a call asks of a source.
-#[derive(Drop)]
+#[derive(Clone, Copy)]
 pub enum SourceCall {
     GetEnabled,
     SetEnabled,
@@ -232,7 +233,7 @@ pub enum SourceCall {
 }
 
 // What a call asks of a source that supports cookies.
-#[derive(Drop)]
+#[derive(Clone, Copy)]
 pub enum CookieCall {
     GetCookie,
     SetCookie,
@@ -240,7 +241,7 @@ pub enum CookieCall {
 }
 
 // The calls, by the papers' names. Sysino are 0xa1 to 0xa6, and Cookie 0xa7 to 0xae.
-#[derive(Drop)]
+#[derive(Clone, Copy)]
 pub enum Function {
     Unknown,
     SetVersion,
@@ -261,14 +262,14 @@ pub enum Function {
 }
 
 // The guest that an event belongs to.
-#[derive(Drop)]
+#[derive(Clone, Copy)]
 pub enum Owner {
     Nobody,
     Guest(u64),
 }
 
 // Every refusal of an event, by the papers' name where they have one.
-#[derive(Drop)]
+#[derive(Clone, Copy)]
 pub enum Refusal {
     ENOCPU,
     ENORADDR,
@@ -286,7 +287,7 @@ pub enum Refusal {
 }
 
 // Done with no value, with value 1, or with values 1 and 2; or refused.
-#[derive(Drop)]
+#[derive(Clone, Copy)]
 pub enum Answer {
     Done,
     One(u64),
@@ -296,7 +297,7 @@ pub enum Answer {
 
 // Every refusal of an image: that bits are missing, or where the first fault is. That is the guest, and of an extent or a source
 // its position there; behind the last guest it is the number of guests.
-#[derive(Drop)]
+#[derive(Clone, Copy)]
 pub enum ImageRefusal {
     ImageShort,
     HeaderOrCount(u8),
@@ -308,21 +309,21 @@ pub enum ImageRefusal {
 }
 
 // The answer of loading.
-#[derive(Drop)]
+#[derive(Clone, Copy)]
 pub enum Loading {
     Accepted,
     Refused(ImageRefusal),
 }
 
 // What loading an image gives.
-#[derive(Drop)]
+#[derive(Clone, Copy)]
 pub struct Loaded {
     pub answer: Loading,
     pub tables: Tables,
 }
 
 // Every refusal of writing an image.
-#[derive(Drop)]
+#[derive(Clone, Copy)]
 pub enum WriteRefusal {
     BadTables,
     NoGuest,
@@ -330,7 +331,7 @@ pub enum WriteRefusal {
 }
 
 // The answer of writing: the length of the image, or why there is none.
-#[derive(Drop)]
+#[derive(Clone, Copy)]
 pub enum Writing {
     Written(usize),
     Refused(WriteRefusal),
@@ -338,7 +339,7 @@ pub enum Writing {
 
 // What a line of a plan adds to the tables: a guest of so many cpus; an extent or a source of the last guest; or nothing, as it is no such
 // line or has a number that a table cannot hold.
-#[derive(Drop)]
+#[derive(Clone, Copy)]
 pub enum PlanLine {
     Bad,
     Guest(u8),
@@ -348,7 +349,7 @@ pub enum PlanLine {
 
 // How far the desk's program is with its lines: before the first; a plan; an image and what loading it answered; or a line that is none,
 // by its number.
-#[derive(Drop)]
+#[derive(Clone, Copy)]
 pub enum Stage {
     Fresh,
     Drawing,
@@ -356,14 +357,14 @@ pub enum Stage {
     Bad(usize),
 }
 
-#[derive(Drop)]
+#[derive(Clone, Copy)]
 pub struct Desk {
     pub stage: Stage,
     pub tables: Tables,
 }
 
 // What is told of a line of the session: that it is bad, the answer of its image, or the answer to its event.
-#[derive(Drop)]
+#[derive(Clone, Copy)]
 pub enum Reply {
     Bad,
     Image(Loading),

@@ -1,4 +1,6 @@
 // Interrupt sources: 0xa0 to 0xae.
+#![tactic(auto)]
+
 ghost use Rattle.std.specs.Prelude.{◌≡◌, ◌&&◌, ◌≤◌, ◌<◌, eqb};
 ghost use Rattle.rules.specs.Limits.{source_limit};
 ghost use Rattle.rules.specs.declared.Plant.{Plant as PlantRecord};

@@ -1,4 +1,6 @@
 // A program's standard input and output. What fails is told on standard error, and is never taken for the end of the input.
+#![tactic(auto)]
+
 ghost use Rattle.std.specs.Prelude.{◌≡◌, ◌≤◌, length};
 ghost use Rattle.io.specs.Counts.{IsPrefixLen};
 ghost use Rattle.stream.specs.Streams.{got_of, bytes_of};

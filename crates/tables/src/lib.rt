@@ -1,4 +1,6 @@
 // The rule on tables (101), and the rule on the memory that is lent with them (102).
+#![tactic(auto)]
+
 mod blank;
 mod keep;
 mod lent;

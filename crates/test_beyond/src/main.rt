@@ -1,5 +1,7 @@
 // What a session cannot show: scrubs past their cap, the TSB lists that are kept, and tables that break a rule. A session's lines
 // over longer memory, with words of its own for the rest; docs/session/README.md says what each prints.
+#![tactic(auto)]
+
 mod draft;
 mod lent;
 mod lists;

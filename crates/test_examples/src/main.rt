@@ -1,5 +1,7 @@
 // Runs the examples of the paper that are not proved about the rules: mondo sends to lists that name a cpu twice, the caller,
 // and a cpu that is not there. Prints the five numbers of every answer; the expected ones are in stdout.
+#![tactic(auto)]
+
 use libc::STDOUT_FILENO;
 use rules::{Call, Event, LoadAt, StoreAt, Tables};
 

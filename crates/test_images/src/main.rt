@@ -1,5 +1,7 @@
 // Runs the worked image and damaged ones through the loader and prints the status and the two values of each, in decimal; the
 // expected ones are in stdout.
+#![tactic(auto)]
+
 use image::load;
 use io::print_decimal;
 use libc::STDOUT_FILENO;

@@ -1,4 +1,6 @@
 // The session program's text, on slices: a line's bytes in, an answer's bytes out.
+#![tactic(auto)]
+
 mod digits;
 mod event;
 mod fields;

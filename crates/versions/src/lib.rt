@@ -1,4 +1,6 @@
 // Which version of each API group a guest speaks: set version and get version.
+#![tactic(auto)]
+
 ghost use Rattle.std.specs.Prelude.{◌≡◌, List, ℕ};
 ghost use Rattle.rules.specs.declared.Tsbs.{Tsbs};
 ghost use Rattle.rules.specs.Rulings.{outcome_of};

@@ -1,5 +1,7 @@
 // Memory by whole pages and by words: scrub (0x31), sync (0x32), store and load. None of them reads or changes the plant's
 // record, so the contracts hold for every plant.
+#![tactic(auto)]
+
 ghost use Rattle.std.specs.Prelude.{◌≡◌, ◌≤◌, min, length};
 ghost use Rattle.rules.specs.declared.Plant.{Plant as PlantRecord};
 ghost use Rattle.rules.specs.Limits.{extent_limit};

@@ -1,4 +1,6 @@
 // Writing partition images: from tables to bytes. The order and the widths are the reader's (crate image).
+#![tactic(auto)]
+
 mod guest;
 
 ghost use Rattle.std.specs.Prelude.{◌≡◌, true, ◌*◌, ◌^◌, ◌<◌, ◌≤◌, length};
