@@ -114,6 +114,7 @@ put_inside s i o (suc k) p h l f =
 -- k bits inside one byte are one store
 pub put_byte : (s : List ℕ) (at i o k part : ℕ) → at / 8 ≡ i → at % 8 ≡ o → o + k ≤ 8 → 1 ≤ k → i < length s → part < 2 ^ k
     → put_bits s at (bits_of k part) ≡ set s i (get_or s i 0 / 2 ^ (8 - o) * 2 ^ (8 - o) + part * 2 ^ (8 - o - k))
+put_byte s at i o zero part e f h n l p = elim n [ ]
 put_byte s at i o (suc k) part e f h n l p =
     let place : at ≡ 8 * i + o = omega arith in
     rw place (put_inside s i o k part h l p)

@@ -1,13 +1,13 @@
 -- The tests for a blank record: each holds of the record after loading, and of that record alone.
 use mathlib.Core.Path.{◌≡◌, refl}
-use mathlib.Core.Bool.{Bool, true, false, ◌&&◌, not, false≢true}
+use mathlib.Core.Bool.{true, false, ◌&&◌, not, false≢true}
 use mathlib.Core.List.{List, [], ◌∷◌}
 use Prim.Native.Nat.{ℕ, zero, suc, ◌<◌}
 use native.Mathlib.Omega.{arith}
 use lib.Dec.{eqb}
 use lib.ListN.{length, get_or, replicate}
 use borrow.Author.Tests.{eqb-true, not-true}
-use Rattle.rules.specs.Types.{Extent, Extents, QueueRecord, Queue, Tsb, Tsbs, Cpu, Source, Versions, Plant, Guest}
+use Rattle.rules.specs.Types.{Extent, QueueRecord, Queue, Tsb, Tsbs, Cpu, Source, Versions, Guest}
 use Rattle.rules.specs.Limits.{cpu_limit, extent_limit, source_limit, queue_limit, tsb_limit}
 use Rattle.rules.specs.Scan.{all_below}
 use Rattle.rules.specs.Kept.{blank_extent, blank_queue, blank_tsb, blank_tsbs, blank_cpu, blank_source, no_versions, blank_guest, hollow_cpu, extent_at, queue_at, tsb_at, cpu_at, source_at}

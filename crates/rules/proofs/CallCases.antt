@@ -1,9 +1,8 @@
 -- "Which calls exist": cases of trap and function numbers, of groups that are not negotiated, and of set and get version.
-use mathlib.Core.Path.{◌≡◌, refl}
+use mathlib.Core.Path.{refl}
 use mathlib.Core.List.{List, [], ◌∷◌, ◌++◌}
 use Prim.Native.String.{String}
 use Rattle.rules.proofs.Computing.{computing}
-use Rattle.rules.specs.Text.{bytes_of}
 use Rattle.rules.proofs.Changes.{comparing, majors, source}
 use Rattle.rules.proofs.Sessions.{Exchange, ◌prints◌, ◌prints◌setting◌, after, heard, Cases}
 

@@ -14,7 +14,6 @@ use Rattle.rules.specs.Image.{filled}
 use Rattle.rules.specs.Tables.{keep_rules}
 use Rattle.rules.specs.Host.{host_event}
 use Rattle.rules.proofs.Computing.{computing}
-use Rattle.rules.specs.Text.{bytes_of}
 use Rattle.rules.proofs.Worked.{run, in_places, worked_guest, loading}
 use Rattle.rules.proofs.Changes.{comparing}
 use Rattle.rules.proofs.Sessions.{Exchange, ◌prints◌, after, heard, Cases}

@@ -1,6 +1,6 @@
 -- The paper's examples that are marked P, about the host's rule itself: an image, the groups negotiated by calls, then the case.
 use mathlib.Core.Path.{◌≡◌, refl}
-use mathlib.Core.List.{List, [], ◌∷◌, ◌++◌}
+use mathlib.Core.List.{List, [], ◌∷◌}
 use Prim.Native.Nat.{ℕ, ◌-◌, ◌^◌}
 use Rattle.rules.specs.Types.{Event, Done, Loading}
 use Rattle.rules.specs.Statuses.{numbers}

@@ -1,9 +1,8 @@
 -- "What the host keeps": on a host where every kind of record is set, each event changes its own and leaves all others.
-use mathlib.Core.Path.{◌≡◌, refl}
+use mathlib.Core.Path.{refl}
 use mathlib.Core.List.{List, [], ◌∷◌}
 use Prim.Native.String.{String}
 use Rattle.rules.proofs.Computing.{computing}
-use Rattle.rules.specs.Text.{bytes_of}
 use Rattle.rules.proofs.Changes.{comparing, majors, unset, ring, tsbs, tsb, statistics, source, word}
 use Rattle.rules.proofs.Sessions.{Exchange, ◌prints◌, ◌prints◌setting◌, after, heard, Cases}
 

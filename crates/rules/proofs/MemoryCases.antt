@@ -5,7 +5,6 @@ use mathlib.Core.List.{List, [], ◌∷◌}
 use Prim.Native.String.{String}
 use Rattle.rules.specs.Session.{Session}
 use Rattle.rules.proofs.Computing.{computing}
-use Rattle.rules.specs.Text.{bytes_of}
 use Rattle.rules.proofs.Changes.{Row, rows, differing, comparing, statistics, word}
 use Rattle.rules.proofs.Sessions.{Exchange, ◌prints◌, ◌prints◌setting◌, empty, given, after, heard, Cases, seven_with}
 

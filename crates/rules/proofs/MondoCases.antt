@@ -1,9 +1,8 @@
 -- "Queues and mondos": cases of 0x42.
-use mathlib.Core.Path.{◌≡◌, refl}
+use mathlib.Core.Path.{refl}
 use mathlib.Core.List.{List, [], ◌∷◌}
 use Prim.Native.String.{String}
 use Rattle.rules.proofs.Computing.{computing}
-use Rattle.rules.specs.Text.{bytes_of}
 use Rattle.rules.proofs.Changes.{comparing, ring, word}
 use Rattle.rules.proofs.Sessions.{Exchange, ◌prints◌, ◌prints◌setting◌, after, heard, Cases}
 

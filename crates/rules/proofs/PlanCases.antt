@@ -1,6 +1,6 @@
 -- The program `plan` (request No. 2): what it prints for plans, images and lines that are neither.
 use mathlib.Core.Path.{◌≡◌, refl}
-use mathlib.Core.List.{List, [], ◌∷◌, ◌++◌}
+use mathlib.Core.List.{List, [], ◌∷◌}
 use Prim.Native.String.{String}
 use Prim.Native.String as string
 use lib.ListN.{replicate}

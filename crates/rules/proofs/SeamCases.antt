@@ -9,7 +9,6 @@ use Rattle.rules.specs.Types.{QueueRecord}
 use Rattle.rules.specs.Kept.{plant_at, with_plant, with_queue}
 use Rattle.rules.specs.Real.{word_bytes}
 use Rattle.rules.specs.Session.{Session}
-use Rattle.rules.specs.Text.{bytes_of}
 use Rattle.rules.proofs.Computing.{computing}
 use Rattle.rules.proofs.Changes.{comparing, ring, tsbs, tsb, statistics, source, word}
 use Rattle.rules.proofs.Sessions.{Exchange, ◌prints◌, ◌prints◌setting◌, empty, after, heard, Cases}

@@ -1,9 +1,8 @@
 -- "Interrupt sources": cases of 0xa0 to 0xae and of raise.
-use mathlib.Core.Path.{◌≡◌, refl}
+use mathlib.Core.Path.{refl}
 use mathlib.Core.List.{List, [], ◌∷◌}
 use Prim.Native.String.{String}
 use Rattle.rules.proofs.Computing.{computing}
-use Rattle.rules.specs.Text.{bytes_of}
 use Rattle.rules.proofs.Changes.{comparing, majors, ring, source, word}
 use Rattle.rules.proofs.Sessions.{Exchange, ◌prints◌, ◌prints◌setting◌, after, heard, Cases}
 

@@ -9,7 +9,6 @@ use Rattle.rules.specs.Real.{word_bytes}
 use Rattle.rules.specs.Statuses.{numbers}
 use Rattle.rules.specs.Host.{host_event}
 use Rattle.rules.proofs.Computing.{computing}
-use Rattle.rules.specs.Text.{bytes_of}
 use Rattle.rules.proofs.Worked.{call}
 use Rattle.rules.proofs.Changes.{comparing, tsbs, tsb, word}
 use Rattle.rules.proofs.Sessions.{Exchange, ◌prints◌, ◌prints◌setting◌, empty, after, heard, Cases}

@@ -1,7 +1,7 @@
 -- "Entry to every event": which guest an event belongs to, what is tried before anything, and what the host's tables and
 -- memory are afterwards.
 use Rattle.std.specs.Prelude.{Bool, true, false, List, ℕ, ◌+◌, ◌*◌, leb, ltb, length}
-use Rattle.rules.specs.Types.{Found, Plant, Tables, Call, Event, Owner, Answer, Refused, BadTables, ShortMemory, NoCaller, NoSource}
+use Rattle.rules.specs.Types.{Found, Plant, Tables, Event, Owner, Answer, Refused, BadTables, ShortMemory, NoCaller, NoSource}
 use Rattle.rules.specs.Limits.{guest_limit, extent_limit, page_size}
 use Rattle.rules.specs.Scan.{all_below, first_below}
 use Rattle.rules.specs.Kept.{plant_at, extents_of, with_plant}
