@@ -1,4 +1,4 @@
-"""The prover on copies of crates, for tools/slips and tools/mutate."""
+"""What tools/slips and tools/mutate share: the edits, the crates, and the prover on a copy of crate rules."""
 import os
 import shutil
 import subprocess
@@ -6,7 +6,6 @@ import sys
 
 ROOT = os.path.dirname(os.path.dirname(os.path.abspath(__file__)))
 CRATES = os.path.join(ROOT, 'crates')
-TARGET = os.path.join(ROOT, 'target')
 
 
 def read(path):
@@ -24,17 +23,18 @@ def jobs():
     return int(os.environ.get('RT_JOBS') or min(os.cpu_count() or 1, 4))
 
 
-def kit():
-    rt = shutil.which('rt') or sys.exit('There is no rt in PATH: this needs the Rattle toolchain.')
-    return os.environ.get('RATTLE_HOME') or os.path.dirname(os.path.dirname(os.path.realpath(rt)))
+def rt():
+    return shutil.which('rt') or sys.exit('There is no rt in PATH: this needs the Rattle toolchain.')
 
 
-def depends(crate):
+def lines_of_crates():
+    """The lines of crates.txt, and of each the libraries that it names, by crate."""
+    out = {}
     for line in read(os.path.join(ROOT, 'crates.txt')).split('\n'):
-        name, _, deps = line.partition('#')[0].partition(':')
-        if name.strip() == crate:
-            return deps.split()
-    sys.exit(f'crates.txt does not list {crate}.')
+        name, colon, deps = line.partition('#')[0].partition(':')
+        if colon:
+            out[name.split()[0]] = (line, deps.split())
+    return out
 
 
 def edits_of(path):
@@ -54,19 +54,14 @@ def edits_in(text):
     return out
 
 
-def check(crate, where):
-    """The prover's status on the copy of a crate at `where`, and what it said. What it finds it keeps in the folder `found` there:
+def check_rules(where):
+    """The prover's status on the copy of crate rules at `where`, and what it said. What it finds it keeps in the folder `found` there:
     a later check of that copy, or of a copy of it, looks again at nothing but what has changed and what stands on that."""
-    home = kit()
-    own = os.path.join(home, 'on', os.uname().machine)
-    words = [os.path.join(own, 'bin', 'rattle'), 'check', '--crate-name', crate, os.path.join(where, 'src', 'lib.rt'),
-             '--extern', 'std=' + os.path.join(own, 'rlib', 'std.rlib')]
-    for dep in depends(crate):
-        here = os.path.join(TARGET if os.path.isdir(os.path.join(CRATES, dep)) else own, 'rlib', dep + '.rlib')
-        words += ['--extern', f'{dep}={here}']
-    words += ['-L', 'dependency=' + os.path.join(TARGET, 'rlib'), '-L', 'dependency=' + os.path.join(own, 'rlib'),
-              '--antt-project', os.path.join(home, 'logic', 'antt-project.json'), '--logic-built', os.path.join(own, 'logic-built'),
-              '--incremental', os.path.join(where, 'found')]
-    run = subprocess.run(words, capture_output=True, text=True, stdin=subprocess.DEVNULL)
-    write(os.path.join(where, 'log'), run.stdout + run.stderr)
-    return run.returncode, run.stdout + run.stderr
+    home = os.path.dirname(os.path.dirname(os.path.realpath(rt())))
+    words = [os.path.join(home, 'bin', 'rattle'), 'check', '--crate-name', 'rules', 'src/lib.rt',
+             '--extern', 'std=' + os.path.join(home, 'rlibs', 'std.rlib'), '-L', 'dependency=' + os.path.join(home, 'rlibs'),
+             '--antt-project', os.path.join(home, 'rattle', 'logic', 'antt-project.json'), '--logic-built', os.path.join(home, 'logic_built'),
+             '--jobs', '1', '--incremental', 'found']
+    run = subprocess.run(words, cwd=where, stdout=subprocess.PIPE, stderr=subprocess.STDOUT, text=True, errors='replace', stdin=subprocess.DEVNULL)
+    write(os.path.join(where, 'log'), run.stdout)
+    return run.returncode, run.stdout
