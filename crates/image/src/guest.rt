@@ -18,20 +18,20 @@ use rules::widths::{
 use rules::{CPUS, EXTENTS, Extent, Extents, Guest, ImageRefusal, Plant, SOURCES, Source};
 
 // A count, or why the image is refused.
-#[derive(Drop)]
+#[derive(Clone, Copy)]
 pub enum Count {
     Is(u8),
     Refused(ImageRefusal),
 }
 
-#[derive(Drop)]
+#[derive(Clone, Copy)]
 pub enum Verdict {
     Granted,
     Refused(ImageRefusal),
 }
 
 // A guest as it was read; blank where the image is refused.
-#[derive(Drop)]
+#[derive(Clone, Copy)]
 pub struct GuestRead {
     pub verdict: Verdict,
     pub guest: Guest,
