@@ -40,7 +40,7 @@ pub struct GuestRead {
 // The n bits from bit `at` on, which are from lo to hi. Outside of these the refusal tells guest g.
 pub(crate) fn read_count(s: &[u8], at: u64, n: u32, lo: u8, hi: u8, g: u8) -> Count
     requires { n ≤ 28 }
-    ensures { result ≡ count_as (n bits_at at of (λ x. x.now) s.entry from lo to hi else HeaderOrCount g) }
+    ensures { result ≡ count_as (n bits_at at of s.now from lo to hi else HeaderOrCount g) }
 {
     let field = bits::field_at(s, at, n);
     let Field::Value(v) = field else {

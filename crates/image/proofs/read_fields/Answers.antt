@@ -1,5 +1,4 @@
 -- `read_fields` meets its contract: before each turn, what is left to read comes to what the whole does.
-use Prim.Native.Nat.{◌-◌}
 use native.Mathlib.Omega.{arith}
 use Rattle.image.proofs.GuestLaws.{behind_most}
 use Rattle.image.proofs.FieldsLaws.{left_start, left_next, header_most, fields_header, fields_refused, fields_read}

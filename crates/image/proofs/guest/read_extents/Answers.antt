@@ -1,5 +1,4 @@
 -- `guest::read_extents` meets its contract: before each turn the first i places are read.
-use Prim.Native.Nat.{◌-◌}
 use native.Mathlib.Omega.{arith}
 use Rattle.rules.specs.Limits.{extent_limit}
 use Rattle.rules.specs.Kept.{blank_extent}
