@@ -1,5 +1,5 @@
 -- `hits::count` meets its contract: both words lie in the row, and are written one after the other.
-use Rattle.std.proofs.Common.{◌+◌, ◌^◌, ◌<◌, sym, subst, arith}
+use Rattle.std.proofs.Common.{sym, subst, arith}
 use Rattle.memory.specs.Ready.{present, Ready}
 use Rattle.plants.proofs.Reach.{range_ends}
 use Rattle.hits.proofs.HitLaws.{first_valid, second_valid, word_valid, both_written}

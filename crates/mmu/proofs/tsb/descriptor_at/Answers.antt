@@ -1,13 +1,6 @@
 -- `mmu::tsb::descriptor_at` meets its contract: each field is a part of the range.
 use native.Mathlib.Omega.{arith}
-use mathlib.Core.Path.{◌≡◌}
-use mathlib.Core.Bool.{true}
-use Prim.Native.Nat.{ℕ, ◌+◌, ◌^◌, ◌≤◌, ◌<◌}
 use native.Mathlib.Nat.{add-zero}
-use lib.ListN.{length}
-use Rattle.rules.specs.Limits.{extent_limit}
-use Rattle.rules.specs.Real.{valid}
-use Rattle.memory.specs.Ready.{present, Ready}
 use Rattle.memory.proofs.Places.{valid_part}
 use Rattle.plants.proofs.Reach.{range_ends}
 use Rattle.mmu.proofs.TsbLaws.{descriptor_read}
