@@ -1,6 +1,5 @@
 -- `mondo::names_stranger` meets its contract: the invariant is that none of the first i entries is a stranger.
 use native.Mathlib.Omega.{arith}
-use Prim.Native.Nat.{◌-◌}
 use Rattle.rules.proofs.Scan.{some_start, some_next, some_found}
 use Rattle.mondo.proofs.names_stranger.Goals as goal
 

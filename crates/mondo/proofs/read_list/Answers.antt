@@ -1,7 +1,7 @@
 -- `mondo::read_list` meets its contract: the invariant is that the first i listed cpus are read.
 use native.Mathlib.Omega.{arith}
 use mathlib.Core.Path.{refl}
-use Prim.Native.Nat.{◌-◌, ◌*◌}
+use Prim.Native.Nat.{◌*◌}
 use lib.ListN.{length-set}
 use Rattle.memory.proofs.Places.{valid_part}
 use Rattle.mondo.proofs.MondoLaws.{read_none, read_more}

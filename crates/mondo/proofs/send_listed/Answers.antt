@@ -5,9 +5,8 @@ use Rattle.mondo.proofs.send_listed.Goals as goal
 
 pub send_all-came-requires : goal.send_all-came-requires
 send_all-came-requires c =
-    let s = j.before.before.before.before.before in
-    let known = none_strange c.read_list-cpus.result s.args.count s.args.cpu s.args.plant _ c.judge_cpus-verdict.ensures c.in-Right.is in
-    record { sound = s.requires.0; count_in_bounds = (omega (arith, c.read_list-cpus.type-inv), s.requires.1.0); by_index = known; count_value = s.requires.1.1.0 }
+    let known = none_strange c.read_list-cpus.result c.args.count c.args.cpu c.args.plant _ c.judge_cpus-verdict.ensures c.in-Right.is in
+    record { sound = c.requires.sound; count_in_bounds = (omega arith, c.requires.count_bound); by_index = known; count_value = c.requires.count_value }
 
 pub returns-then-came : goal.returns-then-came
 returns-then-came c = search listed_sent

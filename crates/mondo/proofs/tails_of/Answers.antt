@@ -1,5 +1,4 @@
 -- `mondo::tails_of` meets its contract: after i turns of the loop the tails of the first i rings are read.
-use Prim.Native.Nat.{◌-◌}
 use native.Mathlib.Omega.{arith}
 use Rattle.mondo.specs.Steps.{tail_in, tails_of}
 use Rattle.mondo.proofs.RingTails.{filled_all}

@@ -1,5 +1,4 @@
 -- `sources::source_named` meets its contract: a scan for the first source of that name.
-use Prim.Native.Nat.{◌-◌}
 use native.Mathlib.Omega.{arith}
 use Rattle.rules.specs.Sources.{sysino_of}
 use Rattle.rules.proofs.Scan.{first_start, first_next, first_end, first_found}

@@ -1,7 +1,7 @@
 -- `mmu::tsb::read_tsbs` meets its contract: the invariant is that the first i descriptors are granted, in the list.
 use native.Mathlib.Omega.{arith}
 use mathlib.Core.Path.{sym, ap, ◌∙◌}
-use Prim.Native.Nat.{◌-◌, ◌*◌}
+use Prim.Native.Nat.{◌*◌}
 use lib.ListN.{length, length-set}
 use Rattle.rules.specs.declared.Tsbs.{Tsbs}
 use Rattle.rules.specs.Rulings.{granted}
