@@ -1,6 +1,6 @@
 -- `stream::write_all` counts what it has written, and no more bytes than there are.
 use Rattle.std.proofs.Common.{arith}
-use Rattle.stream.proofs.GotLaws.{written_on}
+use Rattle.stream.proofs.WriteLaws.{written_on}
 use Rattle.stream.proofs.write_all.Goals as goal
 
 pub returns-then-not-took-clause-written : goal.returns-then-not-took-clause-written
