@@ -10,7 +10,7 @@ mod put;
 pub use put::put_field;
 
 // A field's number; Missing where the bytes end before the field's last bit, or the field is wider than 28 bits.
-#[derive(Drop)]
+#[derive(Clone, Copy)]
 pub enum Field {
     Value(u32),
     Missing,

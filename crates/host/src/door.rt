@@ -9,7 +9,7 @@ use records::Verdict;
 use rules::{Event, Owner, Refusal, Tables};
 
 // Where an event is answered: nowhere, or at a guest that is there.
-#[derive(Drop)]
+#[derive(Clone, Copy)]
 pub enum Seat {
     Refused(Refusal),
     Guest(usize),

@@ -16,7 +16,7 @@ use put::with_plant;
 use rules::{Answer, Event, Refusal, Tables};
 
 // What an event gives back: the answer, and the tables after.
-#[derive(Drop)]
+#[derive(Clone, Copy)]
 pub struct Settled {
     pub answer: Answer,
     pub tables: Tables,

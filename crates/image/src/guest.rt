@@ -18,20 +18,20 @@ use rules::widths::{
 use rules::{CPUS, EXTENTS, Extent, Extents, Guest, ImageRefusal, Plant, SOURCES, Source};
 
 // A count, or why the image is refused.
-#[derive(Drop)]
+#[derive(Clone, Copy)]
 pub enum Count {
     Is(u8),
     Refused(ImageRefusal),
 }
 
-#[derive(Drop)]
+#[derive(Clone, Copy)]
 pub enum Verdict {
     Granted,
     Refused(ImageRefusal),
 }
 
 // A guest as it was read; blank where the image is refused.
-#[derive(Drop)]
+#[derive(Clone, Copy)]
 pub struct GuestRead {
     pub verdict: Verdict,
     pub guest: Guest,
@@ -40,7 +40,7 @@ pub struct GuestRead {
 // The n bits from bit `at` on, which are from lo to hi. Outside of these the refusal tells guest g.
 pub(crate) fn read_count(s: &[u8], at: u64, n: u32, lo: u8, hi: u8, g: u8) -> Count
     requires { n ≤ 28 }
-    ensures { result ≡ count_as (n bits_at at of (λ x. x.now) s.entry from lo to hi else HeaderOrCount g) }
+    ensures { result ≡ count_as (n bits_at at of s.now from lo to hi else HeaderOrCount g) }
 {
     let field = bits::field_at(s, at, n);
     let Field::Value(v) = field else {

@@ -15,7 +15,7 @@ use rules::widths::{EDITION_WIDTH, GUESTS_AT, GUESTS_WIDTH, HEADER_BITS};
 use rules::{EXTENTS, Found, GUESTS, ImageRefusal, Loaded, Loading, SOURCES, Tables};
 
 // What the fields of an image say: the tables, and the bit behind the last field. An image that is refused has no guest.
-#[derive(Drop)]
+#[derive(Clone, Copy)]
 struct Read {
     pub verdict: Verdict,
     pub end: u64,

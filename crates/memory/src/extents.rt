@@ -69,7 +69,7 @@ pub fn range_valid(e: Extents, base: u64, len: u64) -> bool
 }
 
 // A run of host bytes: where it starts, and how many there are.
-#[derive(Drop)]
+#[derive(Clone, Copy)]
 pub(crate) struct Piece {
     pub at: Host,
     pub len: usize,

@@ -16,7 +16,7 @@ use records::{Verdict, blank};
 use rules::{Answer, CPUS, Extents, Real, Refusal, Tsb, Tsbs};
 
 // A new list: all its descriptors are right, or a verdict refuses it and the list is blank.
-#[derive(Drop)]
+#[derive(Clone, Copy)]
 pub struct NewTsbs {
     pub verdict: Verdict,
     pub tsbs: Tsbs,

@@ -23,7 +23,7 @@ use rules::{Answer, CPUS, Extents, Plant, Queue, QueueRecord, Real, Refusal};
 const MONDOS: usize = 64;
 
 // What sending has come to: the tails of the 0x3c rings, and whether nothing was left for want of room.
-#[derive(Drop)]
+#[derive(Clone, Copy)]
 struct Sent {
     tails: [u16; CPUS],
     all: bool,

@@ -25,14 +25,14 @@ pub const RUNS: usize = GUESTS * EXTENTS;
 const NAMES: usize = GUESTS * SOURCES;
 
 // The two rules on a guest's extents: of each by itself, and of each and the one before it.
-#[derive(Drop)]
+#[derive(Clone, Copy)]
 enum Rule {
     Right,
     Follows,
 }
 
 // What a place for a source names, where the guest has a source there.
-#[derive(Drop)]
+#[derive(Clone, Copy)]
 struct Name {
     listed: bool,
     devhandle: u32,

@@ -1,17 +1,15 @@
 -- A valid range ends below 2^64, since the numbers of an extent are those of its types.
 use mathlib.Core.Path.{◌≡◌, refl}
 use mathlib.Core.Bool.{Bool, true, false, cond, false≢true}
-use mathlib.Core.List.{List, [], ◌∷◌, map}
+use mathlib.Core.List.{List, [], ◌∷◌}
 use Prim.Native.Nat.{ℕ, zero, suc, ◌+◌, ◌-◌, ◌^◌, ◌<◌}
 use native.Mathlib.Omega.{arith}
 use lib.ListN.{take}
 use mir.Val.{Val}
 use denote.Array.{each}
 use denote.Laws.{Is}
-use denote.RattleType.{RattleType}
 use denote.Shadow.{shadow}
-use denote.Struct.Declared.{row, shape}
-use denote.Struct.Struct.{Struct}
+use denote.Struct.Declared.{row}
 use Rattle.rules.specs.declared.Extent.{Extent}
 use Rattle.rules.specs.declared.Extents.{Extents}
 use Rattle.rules.specs.declared.Place.{Place}
@@ -33,10 +31,7 @@ typed_take zero xs h = tt
 typed_take (suc n) [] h = tt
 typed_take (suc n) (x ∷ xs) h = (h.0, typed_take n xs h.1)
 
-abbrev R : RattleType
-R = Struct (shape one.the_type)
-
-typed_each : (xs : List Extent) (us : List Val) → shadow (each R.Denot R.own (map (one.the_type).to xs) us) → Typed xs
+typed_each : (xs : List Extent) (us : List Val) → shadow (each (one.the_row).Denot (one.the_row).own_val xs us) → Typed xs
 typed_each [] us s = tt
 typed_each (x ∷ xs) [] s = absurd s
 typed_each (x ∷ xs) (u ∷ us) s = ((omega arith, omega arith), typed_each xs us s.1)

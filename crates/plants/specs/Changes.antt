@@ -4,7 +4,6 @@ use Rattle.rules.specs.declared.Answer.{Answer}
 use Rattle.rules.specs.declared.Cpu.{Cpu}
 use Rattle.rules.specs.declared.Plant.{Plant}
 use Rattle.rules.specs.declared.QueueRecord.{QueueRecord}
-use Rattle.rules.specs.declared.Source.{Source}
 use Rattle.rules.specs.declared.Tsbs.{Tsbs}
 use Rattle.rules.specs.Limits.{cpu_limit, queue_limit, source_limit}
 use Rattle.rules.specs.Kept.{blank_tsbs, cpu_at, queue_at, with_versions, with_cpu, with_queue, with_source, with_tail, cpu_with_queue, cpu_with_ctx0, cpu_with_ctxnon0, cpu_with_statistics}

@@ -10,7 +10,7 @@ use rules::{
 };
 
 // A queue's record, a TSB list, which stands beside it in Done, or the statistics address.
-#[derive(Drop)]
+#[derive(Clone, Copy)]
 pub enum CpuChange {
     Queue(usize, QueueRecord),
     Ctx0,
@@ -20,7 +20,7 @@ pub enum CpuChange {
 
 // The versions, in Disabled with every source of the guest disabled; a cpu's record; a source's, in Delivered with the 0x3d
 // queue of a cpu; or the tails of the 0x3c rings. Tails and TSB lists stand beside it, since they are arrays.
-#[derive(Drop)]
+#[derive(Clone, Copy)]
 pub enum Change {
     Nothing,
     Versions(Versions),
@@ -32,7 +32,7 @@ pub enum Change {
 }
 
 // What a call gives back: the answer, and what it changes.
-#[derive(Drop)]
+#[derive(Clone, Copy)]
 pub struct Done {
     pub answer: Answer,
     pub change: Change,

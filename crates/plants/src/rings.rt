@@ -9,7 +9,7 @@ use crate::parts::ring_at_tail;
 use rules::{Extents, QueueRecord, Real, Ring};
 
 // What putting an entry has come to: the queue's record, and whether there was a ring with room.
-#[derive(Drop)]
+#[derive(Clone, Copy)]
 pub struct Put {
     pub held: QueueRecord,
     pub room: bool,

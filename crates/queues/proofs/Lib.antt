@@ -1,3 +1,2 @@
 pub mod QueueLaws
-pub mod RingCell
 pub mod RingLaws

@@ -121,7 +121,7 @@ fn ring_at_head(mut ring: Ring, to: u16) -> Ring
 }
 
 // A ring with its head written, or the status that refuses it.
-#[derive(Drop)]
+#[derive(Clone, Copy)]
 enum Moved {
     Refused(Refusal),
     To(Ring),

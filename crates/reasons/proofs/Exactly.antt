@@ -14,7 +14,6 @@ use Rattle.rules.specs.declared.Event.{Event}
 use Rattle.rules.specs.Text.{Line, bad, image, event, word_image, call_word, word_head, word_raise, word_load, word_store, word_hit, same, consed, digits, field, fields, paired, paired_or, joined, event_line, event_or, image_or, line_of, pieces, parse, call_of, head_of, device_of, load_of, store_of, hit_of}
 use Rattle.rules.proofs.Tests.{and_left, and_right, bool_same}
 use Rattle.reasons.specs.declared.fault.Word.{Word}
-use Rattle.reasons.specs.declared.fault.Word.TheVariants.{Call, Head, Raise, Load, Store, Hit}
 use Rattle.reasons.specs.declared.fault.Fault.{Fault}
 use Rattle.reasons.specs.declared.fault.Fault.TheVariants.{TooLong, EmptyField, NoNumber, NoDigit, OddDigits}
 use Rattle.reasons.specs.Faults.{◌or_tell◌then◌, is_some, word_of, least, most, why_field, why_count, ◌before◌, why_fields, why_event, why_image, why_line, last_byte, or_return, why_bad}

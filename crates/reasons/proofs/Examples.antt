@@ -1,8 +1,6 @@
 -- Worked examples: a line for each fault, a good line, and some answers with their reasons.
 use mathlib.Core.Path.{◌≡◌, refl}
-use mathlib.Core.List.{List}
 use mathlib.Core.Option.{Option, none, some}
-use Prim.Native.Nat.{ℕ}
 use Prim.Native.String.{String, ◌++◌}
 use lib.ListN.{replicate}
 use Rattle.text.specs.Pieces.{first_length}

@@ -1,6 +1,6 @@
 -- Laws of an image's text, as the loop goes from one byte to the next. odd: a digit waits, whichever it is.
 use mathlib.Core.Bool.{Bool, true, false, not}
-use mathlib.Core.Path.{◌≡◌, refl, sym, ap, ◌∙◌}
+use mathlib.Core.Path.{◌≡◌, refl, sym, ◌∙◌}
 use mathlib.Core.List.{List, [], ◌∷◌}
 use mathlib.Core.Option.{Option, none, some}
 use Prim.Native.Nat.{ℕ, ◌+◌, ◌<◌, ◌≤◌}
@@ -14,7 +14,6 @@ use Rattle.text.specs.Pieces.{unspaced, digit_or}
 use Rattle.text.proofs.NumberLaws.{tells_none, tells_some}
 use Rattle.reasons.specs.declared.fault.Fault.{Fault}
 use Rattle.reasons.specs.declared.fault.Fault.TheVariants.{NoDigit, OddDigits}
-use Rattle.reasons.specs.declared.fault.Why.{Why}
 use Rattle.reasons.specs.declared.fault.Why.TheVariants.{Good, Bad}
 use Rattle.reasons.specs.Faults.{why_image, ◌or_tell◌then◌, is_some}
 use Rattle.reasons.specs.Told.{told}

@@ -1,7 +1,7 @@
 -- A reason has at most 120 bytes, its line feed included.
 use mathlib.Core.Bool.{Bool, true, false, ◌&&◌}
 use mathlib.Core.Path.{◌≡◌, refl, sym}
-use mathlib.Core.List.{List, [], ◌∷◌, ◌++◌}
+use mathlib.Core.List.{List, [], ◌∷◌}
 use mathlib.Core.Option.{Option, none, some}
 use Prim.Native.Nat.{ℕ, ◌+◌, ◌≤◌}
 use native.Mathlib.Omega.{arith}
@@ -21,7 +21,7 @@ use Rattle.reasons.specs.declared.fault.Why.TheVariants.{Good, Bad}
 use Rattle.reasons.specs.Faults.{why_bad}
 use Rattle.reasons.specs.Told.{told}
 use Rattle.reasons.specs.Put.{Put}
-use Rattle.reasons.specs.Words.{Meaning, meanings, meaning_in, decimal, form, fault_text, why_text, status_text, unfed, first_piece, reason_by, reason}
+use Rattle.reasons.specs.Words.{Meaning, meanings, meaning_in, form, fault_text, why_text, status_text, unfed, first_piece, reason_by, reason}
 use Rattle.reasons.proofs.PutLaws.{decimal_most}
 
 abbrev Short : List ℕ → Type 0

@@ -1,7 +1,7 @@
 // What can be wrong with a line.
 
 // The first word of an event.
-#[derive(Drop)]
+#[derive(Clone, Copy)]
 pub enum Word {
     Call,
     Head,

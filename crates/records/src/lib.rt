@@ -18,7 +18,7 @@ ghost use Rattle.records.specs.Masks.{mask_bit_right, lowest_index};
 use rules::{Extents, Refusal, Tsb};
 
 // Whether a record is right, or the status that refuses it.
-#[derive(Drop)]
+#[derive(Clone, Copy)]
 pub enum Verdict {
     Right,
     Refused(Refusal),

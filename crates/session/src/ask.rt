@@ -13,7 +13,7 @@ use rules::{Answer, Event, Loaded, Reply, Tables};
 use text::Line;
 
 // Nothing but the reply, as it is no line or an event that is refused at the door; an image; an event of a guest that is there.
-#[derive(Drop)]
+#[derive(Clone, Copy)]
 pub enum Asked {
     Said(Reply),
     Image,

@@ -12,7 +12,7 @@ use rules::{CPUS, Reply, SOURCES, Tables};
 pub const LINE: usize = 2049;
 
 // The tables, and the first held bytes of a line that has not ended.
-#[derive(Drop)]
+#[derive(Clone, Copy)]
 pub struct Feeder {
     pub tables: Tables,
     pub line: [u8; LINE],
@@ -20,7 +20,7 @@ pub struct Feeder {
 }
 
 // taken bytes of the piece were read, and written bytes of answers were given.
-#[derive(Drop)]
+#[derive(Clone, Copy)]
 pub struct Fed {
     pub feeder: Feeder,
     pub taken: usize,

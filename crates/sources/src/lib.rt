@@ -25,7 +25,7 @@ fn is_named(s: Source, devhandle: u64, devino: u64) -> bool
 }
 
 // No source of that name; or its position in the guest's own list, and its record.
-#[derive(Drop)]
+#[derive(Clone, Copy)]
 pub enum Named {
     Nothing,
     At(usize, Source),

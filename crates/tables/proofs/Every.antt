@@ -1,9 +1,9 @@
 -- Laws of a test of every place of a list that does not stop at the first that fails: b is what it has come to before place i,
 -- s what it started with, and t what the code's test at i came to.
 use mathlib.Core.Bool.{Bool, ◌&&◌, and-true, and_assoc}
-use mathlib.Core.Path.{◌≡◌, refl, sym}
+use mathlib.Core.Path.{◌≡◌, sym}
 use mathlib.Core.List.{List}
-use Prim.Native.Nat.{ℕ, zero, suc, ◌+◌, ◌<◌, ◌≤◌}
+use Prim.Native.Nat.{ℕ, ◌+◌, ◌≤◌}
 use native.Mathlib.Nat.{le_refl}
 use native.Mathlib.Numerals.{add-one}
 use native.Mathlib.Omega.{arith}

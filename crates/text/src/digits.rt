@@ -7,7 +7,7 @@ ghost use Rattle.text.specs.Pieces.{image_at, size_or};
 use crate::number::{NO_DIGIT, digit_of};
 
 // The number of an image's bytes; Bad where a byte is no digit, or the digits are odd in number.
-#[derive(Drop)]
+#[derive(Clone, Copy)]
 pub enum Size {
     Bad,
     Bytes(usize),

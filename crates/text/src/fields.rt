@@ -11,7 +11,7 @@ use crate::piece::piece_end;
 pub const FIELDS: usize = 9;
 
 // count numbers, with zeros behind them. right is false where a field is no number, or there are more than FIELDS.
-#[derive(Drop)]
+#[derive(Clone, Copy)]
 pub struct Fields {
     pub right: bool,
     pub numbers: usize,

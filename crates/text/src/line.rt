@@ -11,7 +11,7 @@ use crate::piece::{piece_end, same_text};
 use rules::Event;
 
 // The bytes of an image are read by image_bytes.
-#[derive(Drop)]
+#[derive(Clone, Copy)]
 pub enum Line {
     Bad,
     Image,

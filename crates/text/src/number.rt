@@ -7,7 +7,7 @@ ghost use Rattle.text.specs.Pieces.{digit_or, number_or};
 pub const NO_DIGIT: u8 = 16;
 
 // A field's number; Bad where the field is no number of 1 to 16 digits.
-#[derive(Drop)]
+#[derive(Clone, Copy)]
 pub enum Number {
     Bad,
     Is(u64),

@@ -1,6 +1,8 @@
 -- `records::judge_tsb` meets its contract: each return is the rule's case, by the tests on the way.
 use Rattle.records.proofs.Powers.{some_bytes}
 use Rattle.records.proofs.Verdicts.{tsb_index, tsb_no_mask, tsb_mask, tsb_ways, tsb_entry, tsb_context, tsb_lowest, tsb_align, tsb_range, tsb_right}
+use mathlib.Core.Bool.{not}
+use mathlib.Core.Path.{ap}
 use Rattle.records.proofs.judge_tsb.Goals as goal
 
 pub returns-then-not-is_page_index : goal.returns-then-not-is_page_index
@@ -26,7 +28,7 @@ returns-then-not-is_lowest_index c = search tsb_lowest
 
 pub nonzero_rem-t : goal.nonzero_rem-t
 nonzero_rem-t c =
-    some_bytes _ _ c.tsb_entries.ensures c.if-not-tsb_entries.false
+    some_bytes _ _ c.tsb_entries.ensures (ap not c.if-not-tsb_entries.false)
 
 pub returns-then-t-size-ne0 : goal.returns-then-t-size-ne0
 returns-then-t-size-ne0 c = search tsb_align

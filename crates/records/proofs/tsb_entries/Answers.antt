@@ -1,5 +1,5 @@
 -- `records::tsb_entries` meets its contract: its match is on the powers of two from 512 to 1,048,576.
-use mathlib.Core.List.{List, ◌∷◌}
+use mathlib.Core.List.{List, [], ◌∷◌}
 use mathlib.Core.Path.{refl, sym}
 use Prim.Native.Nat.{ℕ}
 use Rattle.rules.proofs.Computing.{computing}
@@ -12,8 +12,8 @@ sizes =
 
 pub returns-in-512 : goal.returns-in-512
 unfolding computing
-returns-in-512 c = sym (is_power 512 1_048_576 sizes refl c.args.n c.in-512.keys1)
+returns-in-512 c = sym (is_power 512 1_048_576 sizes refl c.args.n c.in-512.is)
 
 pub returns-in_default : goal.returns-in_default
 unfolding computing
-returns-in_default c = sym (is_none 512 1_048_576 sizes refl c.args.n c.in_default.rest.1)
+returns-in_default c = sym (is_none 512 1_048_576 sizes refl c.args.n c.in_default.in_default-own.rest.1)

@@ -1,0 +1,7 @@
+-- `guest::read_source` meets its contract: each part is the field that is read for it, and the rest is blank.
+use native.Mathlib.Omega.{arith}
+use Rattle.bits.proofs.FieldLaws.{field_fits}
+use Rattle.image.proofs.guest.read_source.Goals as goal
+
+pub overflow_cast-source : goal.overflow_cast-source
+overflow_cast-source c = record { fits = omega (arith, field_fits _ _ 7 _ c.number_at-2.ensures) }

@@ -1,0 +1,11 @@
+-- `mmu::tsb::mmu_tsb_ctxnon0` meets its contract: its change is what the rule makes of the record.
+use Rattle.rules.specs.Kept.{with_ctxnon0}
+use Rattle.rules.specs.Tsb.{mmu_tsb_ctxnon0}
+use Rattle.plants.proofs.ChangeLaws.{ctxnon0_after}
+use Rattle.mmu.proofs.TsbLaws.{set_by}
+use borrow.Author.Rules.{rules}
+use Rattle.mmu.proofs.tsb.mmu_tsb_ctxnon0.Goals as goal
+
+pub returns : goal.returns
+unfolding mmu_tsb_ctxnon0
+returns c = λ plant. set_by _ plant _ _ _ _ _ (with_ctxnon0 plant _) (λ tsbs. ctxnon0_after plant tsbs _ _ (search rules)) (c.set_tsbs.ensures plant)

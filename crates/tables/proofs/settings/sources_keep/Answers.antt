@@ -1,0 +1,15 @@
+-- `tables::settings::sources_keep` meets its contract: the places passed keep the rule if the test still holds.
+use native.Mathlib.Omega.{arith}
+use Rattle.tables.specs.Lists.{sources_keep}
+use Rattle.tables.proofs.Every.{every_start, every_next, every_end}
+use Rattle.tables.proofs.settings.sources_keep.Goals as goal
+
+pub loop-i-init : goal.loop-i-init
+loop-i-init c = (omega arith, every_start _ _)
+
+pub loop-i-preserved : goal.loop-i-preserved
+loop-i-preserved c = (omega arith, search every_next)
+
+pub returns : goal.returns
+unfolding sources_keep
+returns c = search every_end
