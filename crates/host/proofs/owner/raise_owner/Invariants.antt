@@ -1,0 +1,13 @@
+-- `host::owner::raise_owner` meets its contract: a search of the guests that are there.
+use mathlib.Core.Path.{◌≡◌}
+use Prim.Native.Nat.{◌-◌, ◌≤◌}
+use Rattle.rules.specs.declared.Found.{Found}
+use Rattle.rules.specs.Scan.{first_below}
+use Rattle.host.proofs.OwnerLaws.{has}
+use Rattle.host.proofs.owner.raise_owner.Given as goal
+
+abbrev pub invariant-loop-g : goal.invariant-loop-g
+invariant-loop-g l = (l.g ≤ l.guests) × (l.count ≡ l.guests) × (first_below l.g (has l.guests l.guest l.d) ≡ Found.Nothing)
+
+abbrev pub decreases-loop-g : goal.decreases-loop-g
+decreases-loop-g l = l.guests - l.g
