@@ -6,6 +6,8 @@ ghost use Rattle.session.specs.Feeding.{AllFed};
 use crate::plain::{Went, answer_piece, write_text};
 use reasons::ROOM;
 use session::Feeder;
+use std::io::Write;
+use stream::Streams;
 
 // A byte that would do something to a terminal, or nothing that can be seen, stands as a question mark.
 fn shown(b: u8) -> u8 {
@@ -26,60 +28,86 @@ fn show(line: &[u8], out: &mut [u8]) -> usize
 }
 
 // An answer, and behind it what it means.
-fn write_answer(line: &[u8], answer: &[u8]) -> bool {
+fn write_answer<R, W: Write, E: Print>(
+    streams: &mut Streams<R, W, E>,
+    line: &[u8],
+    answer: &[u8],
+) -> bool {
     let mut reason = [0u8; ROOM];
     let n = reasons::put_reason(line, answer, &mut reason);
-    if !write_text(b"    ") {
+    if !write_text(streams, b"    ") {
         return false;
     }
-    if !write_text(answer) {
+    if !write_text(streams, answer) {
         return false;
     }
-    if !write_text(b"    ") {
+    if !write_text(streams, b"    ") {
         return false;
     }
-    write_text(&reason[..n])
+    write_text(streams, &reason[..n])
 }
 
 // Whether the line could be written.
-fn write_line(line: &[u8], out: &mut [u8]) -> bool {
+fn write_line<R, W: Write, E: Print>(
+    streams: &mut Streams<R, W, E>,
+    line: &[u8],
+    out: &mut [u8],
+) -> bool {
     let n = show(line, out);
-    if !write_text(&out[..n]) {
+    if !write_text(streams, &out[..n]) {
         return false;
     }
-    write_text(b"\n")
+    write_text(streams, b"\n")
 }
 
 // The end of a line that the feeder holds: the line is written before it is carried out.
-fn explain_end_of(line: &[u8], feeder: Feeder, mem: &mut [u8], out: &mut [u8]) -> Went
+fn explain_end_of<R, W: Write, E: Print>(
+    streams: &mut Streams<R, W, E>,
+    line: &[u8],
+    feeder: Feeder,
+    mem: &mut [u8],
+    out: &mut [u8],
+) -> Went
     requires { 96 ≤ length out.old }
     ensures { result.on ≡ true → AllFed feeder mem.old (line_feed ∷ []) result.feeder mem.new }
 {
-    if !write_line(line, out) {
+    if !write_line(streams, line, out) {
         return Went { feeder, on: false };
     }
     let fed = session::feed(feeder, mem, b"\n", out);
     let after = fed.feeder;
     let written = fed.written;
-    let on = write_answer(line, &out[..written]);
+    let on = write_answer(streams, line, &out[..written]);
     Went { feeder: after, on }
 }
 
 // The line is the first held bytes that the feeder keeps.
-fn explain_held(line: &[u8], held: usize, feeder: Feeder, mem: &mut [u8], out: &mut [u8]) -> Went
+fn explain_held<R, W: Write, E: Print>(
+    streams: &mut Streams<R, W, E>,
+    line: &[u8],
+    held: usize,
+    feeder: Feeder,
+    mem: &mut [u8],
+    out: &mut [u8],
+) -> Went
     requires { 96 ≤ length out.old }
     ensures { result.on ≡ true → AllFed feeder mem.old (line_feed ∷ []) result.feeder mem.new }
 {
     let n = memory::least(held, line.len());
-    explain_end_of(&line[..n], feeder, mem, out)
+    explain_end_of(streams, &line[..n], feeder, mem, out)
 }
 
-fn explain_line(feeder: Feeder, mem: &mut [u8], out: &mut [u8]) -> Went
+fn explain_line<R, W: Write, E: Print>(
+    streams: &mut Streams<R, W, E>,
+    feeder: Feeder,
+    mem: &mut [u8],
+    out: &mut [u8],
+) -> Went
     requires { 96 ≤ length out.old }
     ensures { result.on ≡ true → AllFed feeder mem.old (line_feed ∷ []) result.feeder mem.new }
 {
     let line = feeder.line;
-    explain_held(&line, feeder.held, feeder, mem, out)
+    explain_held(streams, &line, feeder.held, feeder, mem, out)
 }
 
 // The next line feed from the place from on, or the end of the piece.
@@ -98,7 +126,13 @@ fn line_end(piece: &[u8], from: usize) -> usize
 }
 
 // As answer_piece: no byte is lost.
-pub(crate) fn explain_piece(feeder: Feeder, mem: &mut [u8], piece: &[u8], out: &mut [u8]) -> Went
+pub(crate) fn explain_piece<R, W: Write, E: Print>(
+    streams: &mut Streams<R, W, E>,
+    feeder: Feeder,
+    mem: &mut [u8],
+    piece: &[u8],
+    out: &mut [u8],
+) -> Went
     requires { 96 ≤ length out.old }
     ensures { result.on ≡ true → AllFed feeder mem.old piece.now result.feeder mem.new }
 {
@@ -106,7 +140,7 @@ pub(crate) fn explain_piece(feeder: Feeder, mem: &mut [u8], piece: &[u8], out: &
     let mut from = 0;
     while from < piece.len() {
         if piece[from] == b'\n' {
-            let went = explain_line(left, mem, out);
+            let went = explain_line(streams, left, mem, out);
             let after = went.feeder;
             left = after;
             from += 1;
@@ -119,7 +153,7 @@ pub(crate) fn explain_piece(feeder: Feeder, mem: &mut [u8], piece: &[u8], out: &
             continue;
         }
         let end = line_end(piece, from + 1);
-        let went = answer_piece(left, mem, &piece[from..end], out);
+        let went = answer_piece(streams, left, mem, &piece[from..end], out);
         let after = went.feeder;
         left = after;
         from = end;
@@ -137,10 +171,15 @@ pub(crate) fn explain_piece(feeder: Feeder, mem: &mut [u8], piece: &[u8], out: &
 }
 
 // The end of the input answers a last line that has no line feed.
-pub(crate) fn explain_end(feeder: Feeder, mem: &mut [u8], out: &mut [u8])
+pub(crate) fn explain_end<R, W: Write, E: Print>(
+    streams: &mut Streams<R, W, E>,
+    feeder: Feeder,
+    mem: &mut [u8],
+    out: &mut [u8],
+)
     requires { 96 ≤ length out.old }
 {
     if feeder.held != 0 {
-        explain_line(feeder, mem, out);
+        explain_line(streams, feeder, mem, out);
     }
 }

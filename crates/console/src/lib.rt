@@ -1,4 +1,4 @@
-// A session on standard input and output, plain or explained. It answers what it has read before it waits for more. A read or a write
+// A session on a program's streams, plain or explained. It answers what it has read before it waits for more. A read or a write
 // that fails is told on standard error and ends it: the line that has been begun is not carried out.
 #![tactic(auto)]
 
@@ -10,7 +10,8 @@ ghost use Rattle.session.specs.Feeding.{AllFed};
 
 use plain::Went;
 use session::Feeder;
-use stream::Got;
+use std::io::{Read, Write};
+use stream::{Got, Streams};
 
 // What is read at once, the guests' memory, and the room for answers. The first and the last could be any other numbers: what does not
 // fit is answered in several turns.
@@ -27,7 +28,7 @@ pub fn room() -> [u8; ANSWERS]
     [0; ANSWERS]
 }
 
-#[derive(Drop)]
+#[derive(Clone, Copy)]
 pub enum Mode {
     Plain,
     Explained,
@@ -48,23 +49,37 @@ struct Turn {
 }
 
 // What a piece comes to, in either mode.
-fn answer_piece(mode: Mode, feeder: Feeder, mem: &mut [u8], piece: &[u8], out: &mut [u8]) -> Went
+fn answer_piece<R, W: Write, E: Print>(
+    streams: &mut Streams<R, W, E>,
+    mode: Mode,
+    feeder: Feeder,
+    mem: &mut [u8],
+    piece: &[u8],
+    out: &mut [u8],
+) -> Went
     requires { 96 ≤ length out.old }
     ensures { result.on ≡ true → AllFed feeder mem.old piece.now result.feeder mem.new }
 {
     match mode {
-        Mode::Plain => plain::answer_piece(feeder, mem, piece, out),
-        Mode::Explained => explained::explain_piece(feeder, mem, piece, out),
+        Mode::Plain => plain::answer_piece(streams, feeder, mem, piece, out),
+        Mode::Explained => explained::explain_piece(streams, feeder, mem, piece, out),
     }
 }
 
 // Reads once, and answers what came.
-fn answer_some(mode: Mode, feeder: Feeder, mem: &mut [u8], input: &mut [u8], out: &mut [u8]) -> Turn
+fn answer_some<R: Read, W: Write, E: Print>(
+    streams: &mut Streams<R, W, E>,
+    mode: Mode,
+    feeder: Feeder,
+    mem: &mut [u8],
+    input: &mut [u8],
+    out: &mut [u8],
+) -> Turn
     requires { 96 ≤ length out.old }
 {
-    match stream::read_some(input, b"chaldrev: standard input") {
+    match stream::read_some(streams, input, b"chaldrev: standard input") {
         Got::Bytes(n) => {
-            let went = answer_piece(mode, feeder, mem, &input[..n], out);
+            let went = answer_piece(streams, mode, feeder, mem, &input[..n], out);
             let after = went.feeder;
             if went.on {
                 return Turn {
@@ -93,31 +108,43 @@ fn answer_some(mode: Mode, feeder: Feeder, mem: &mut [u8], input: &mut [u8], out
 }
 
 // The end of the input, in either mode.
-fn answer_end(mode: Mode, feeder: Feeder, mem: &mut [u8], out: &mut [u8])
+fn answer_end<R, W: Write, E: Print>(
+    streams: &mut Streams<R, W, E>,
+    mode: Mode,
+    feeder: Feeder,
+    mem: &mut [u8],
+    out: &mut [u8],
+)
     requires { 96 ≤ length out.old }
 {
     match mode {
-        Mode::Plain => plain::answer_end(feeder, mem, out),
-        Mode::Explained => explained::explain_end(feeder, mem, out),
+        Mode::Plain => plain::answer_end(streams, feeder, mem, out),
+        Mode::Explained => explained::explain_end(streams, feeder, mem, out),
     }
 }
 
 // A proved loop has to end, and nothing says that the input does: this one counts down from a number that no run uses up.
-pub fn run(mode: Mode, mem: &mut [u8], input: &mut [u8], out: &mut [u8])
+pub fn run<R: Read, W: Write, E: Print>(
+    streams: &mut Streams<R, W, E>,
+    mode: Mode,
+    mem: &mut [u8],
+    input: &mut [u8],
+    out: &mut [u8],
+)
     requires { 96 ≤ length out.old }
 {
     let mut feeder = session::begin();
     let mut turns = u64::MAX;
     while turns > 0 {
         turns -= 1;
-        let turn = answer_some(mode, feeder, mem, input, out);
+        let turn = answer_some(streams, mode, feeder, mem, input, out);
         let after = turn.feeder;
         feeder = after;
         let next = turn.next;
         match next {
             Next::Read => {}
             Next::Finish => {
-                answer_end(mode, feeder, mem, out);
+                answer_end(streams, mode, feeder, mem, out);
                 return;
             }
             Next::Stop => return,

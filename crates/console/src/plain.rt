@@ -3,6 +3,8 @@ ghost use Rattle.std.specs.Prelude.{◌≡◌, true, ◌≤◌, length};
 ghost use Rattle.session.specs.Feeding.{AllFed};
 
 use session::Feeder;
+use std::io::Write;
+use stream::Streams;
 
 // What a piece came to. on is false where a write failed.
 #[derive(Drop)]
@@ -12,13 +14,22 @@ pub(crate) struct Went {
 }
 
 // Whether all of it could be written.
-pub(crate) fn write_text(text: &[u8]) -> bool {
-    stream::write_all(text, b"chaldrev: standard output") == text.len()
+pub(crate) fn write_text<R, W: Write, E: Print>(
+    streams: &mut Streams<R, W, E>,
+    text: &[u8],
+) -> bool {
+    stream::write_all(streams, text, b"chaldrev: standard output") == text.len()
 }
 
 // Feeds all of a piece, in as many turns as the room for answers asks for, and writes the answers. No byte is lost: unless a write
 // failed, the session stands where every byte of the piece leaves it.
-pub(crate) fn answer_piece(feeder: Feeder, mem: &mut [u8], piece: &[u8], out: &mut [u8]) -> Went
+pub(crate) fn answer_piece<R, W: Write, E: Print>(
+    streams: &mut Streams<R, W, E>,
+    feeder: Feeder,
+    mem: &mut [u8],
+    piece: &[u8],
+    out: &mut [u8],
+) -> Went
     requires { 96 ≤ length out.old }
     ensures { result.on ≡ true → AllFed feeder mem.old piece.now result.feeder mem.new }
 {
@@ -30,7 +41,7 @@ pub(crate) fn answer_piece(feeder: Feeder, mem: &mut [u8], piece: &[u8], out: &m
         left = after;
         from += fed.taken;
         let written = fed.written;
-        if !write_text(&out[..written]) {
+        if !write_text(streams, &out[..written]) {
             return Went {
                 feeder: left,
                 on: false,
@@ -44,8 +55,13 @@ pub(crate) fn answer_piece(feeder: Feeder, mem: &mut [u8], piece: &[u8], out: &m
 }
 
 // The end of the input answers a last line that has no line feed.
-pub(crate) fn answer_end(feeder: Feeder, mem: &mut [u8], out: &mut [u8]) {
+pub(crate) fn answer_end<R, W: Write, E: Print>(
+    streams: &mut Streams<R, W, E>,
+    feeder: Feeder,
+    mem: &mut [u8],
+    out: &mut [u8],
+) {
     let fed = session::finish(feeder, mem, out);
     let written = fed.written;
-    write_text(&out[..written]);
+    write_text(streams, &out[..written]);
 }

@@ -2,10 +2,22 @@
 #![tactic(auto)]
 
 use console::{INPUT, MEMORY, Mode};
+use stream::Streams;
 
-fn main() {
+fn main(rt: HostRuntime) {
+    let mut streams = Streams {
+        input: rt.stdin(),
+        output: rt.stdout(),
+        errors: rt.stderr(),
+    };
     let mut mem = [0u8; MEMORY];
     let mut input = [0u8; INPUT];
     let mut out = console::room();
-    console::run(Mode::Explained, &mut mem, &mut input, &mut out);
+    console::run(
+        &mut streams,
+        Mode::Explained,
+        &mut mem,
+        &mut input,
+        &mut out,
+    );
 }

@@ -14,7 +14,7 @@ use Rattle.plants.specs.Changes.{plant_after}
 use Rattle.plants.specs.Done.{quietly, saying}
 use Rattle.plants.specs.Follows.{Follows}
 use Rattle.plants.proofs.all_disabled.Reads as all-disabled-reads
-use Rattle.plants.proofs.at_tail_lem.Reads as at-tail-reads
+use Rattle.plants.proofs.at_tail.Reads as at-tail-reads
 use Rattle.plants.proofs.cpu_after.Reads as cpu-after-reads
 use Rattle.plants.proofs.cpu_at_tail.Reads as cpu-at-tail-reads
 use Rattle.plants.proofs.told.Reads as told-reads

@@ -5,7 +5,8 @@
 ghost use Rattle.std.specs.Prelude.{◌≡◌, ◌+◌, ◌*◌, ◌≤◌, length};
 
 use rules::{Loading, Tables, Writing};
-use stream::Got;
+use std::io::Write;
+use stream::{Got, Streams};
 use text::Line;
 
 const INPUT: usize = 16384;
@@ -97,24 +98,30 @@ fn put_line(line: &[u8], at: usize, out: &mut [u8]) -> usize
     }
 }
 
-fn write_text(text: &[u8]) {
-    stream::write_all(text, b"rewrite: standard output");
+fn write_text<R, W: Write, E: Print>(streams: &mut Streams<R, W, E>, text: &[u8]) {
+    stream::write_all(streams, text, b"rewrite: standard output");
 }
 
 // Where there is no room for one more answer, writes those that there are; gives the place for the next.
-fn with_room(at: usize, out: &[u8]) -> usize
+fn with_room<R, W: Write, E: Print>(streams: &mut Streams<R, W, E>, at: usize, out: &[u8]) -> usize
     requires { (at ≤ length out.now) × (4096 ≤ length out.now) }
     ensures { result + 4096 ≤ length out.now }
 {
     if out.len() - at < ANSWER {
-        write_text(&out[..at]);
+        write_text(streams, &out[..at]);
         return 0;
     }
     at
 }
 
 // Answers the lines of a piece; gives how many bytes of a line that has not ended are held.
-fn answer_piece(piece: &[u8], line: &mut [u8], before: usize, out: &mut [u8]) -> usize
+fn answer_piece<R, W: Write, E: Print>(
+    streams: &mut Streams<R, W, E>,
+    piece: &[u8],
+    line: &mut [u8],
+    before: usize,
+    out: &mut [u8],
+) -> usize
     requires { 4096 ≤ length out.old }
     ensures { length out.new ≡ length out.old }
 {
@@ -131,11 +138,11 @@ fn answer_piece(piece: &[u8], line: &mut [u8], before: usize, out: &mut [u8]) ->
             }
             continue;
         }
-        at = with_room(at, out);
+        at = with_room(streams, at, out);
         at = put_line(&line[..held], at, out);
         held = 0;
     }
-    write_text(&out[..at]);
+    write_text(streams, &out[..at]);
     held
 }
 
@@ -145,7 +152,12 @@ fn room() -> [u8; ANSWERS]
     [0; ANSWERS]
 }
 
-fn main() {
+fn main(rt: HostRuntime) {
+    let mut streams = Streams {
+        input: rt.stdin(),
+        output: rt.stdout(),
+        errors: rt.stderr(),
+    };
     let mut input = [0u8; INPUT];
     let mut line = [0u8; LINE];
     let mut out = room();
@@ -153,8 +165,14 @@ fn main() {
     let mut turns = u64::MAX;
     while turns > 0 {
         turns -= 1;
-        match stream::read_some(&mut input, b"rewrite: standard input") {
-            Got::Bytes(n) => held = answer_piece(&input[..n], &mut line, held, &mut out),
+        match stream::read_some(&mut streams, &mut input, b"rewrite: standard input") {
+            Got::Bytes(n) => held = answer_piece(
+                &mut streams,
+                &input[..n],
+                &mut line,
+                held,
+                &mut out,
+            ),
             Got::Again => {}
             Got::End => return,
             Got::Failed => return,

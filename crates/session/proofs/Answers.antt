@@ -1,20 +1,17 @@
 -- What each thing that a line can ask for comes to.
 use mathlib.Core.Path.{◌≡◌, refl, sym, ap, ◌∙◌}
-use mathlib.Core.Bool.{true, false}
+use mathlib.Core.Bool.{true}
 use mathlib.Core.List.{List}
 use Prim.Native.Nat.{ℕ, ◌<◌}
 use native.Mathlib.Omega.{arith}
 use lib.ListN.{length}
-use lib.Seq.{set-get_or}
 use Rattle.rules.specs.declared.Answer.{Answer}
 use Rattle.rules.specs.declared.Event.{Event}
 use Rattle.rules.specs.declared.Loaded.{Loaded}
-use Rattle.rules.specs.declared.Plant.{Plant}
-use Rattle.rules.specs.declared.Refusal.{Refusal}
 use Rattle.rules.specs.declared.Tables.{Tables}
 use Rattle.rules.specs.declared.Reply.{Reply}
 use Rattle.rules.specs.Limits.{guest_limit}
-use Rattle.rules.specs.Kept.{hollow_guest, guest_at, plant_at, extents_of, with_plant}
+use Rattle.rules.specs.Kept.{guest_at, plant_at, extents_of, with_plant}
 use Rattle.rules.specs.Real.{sight_of}
 use Rattle.rules.specs.Image.{load}
 use Rattle.rules.specs.Host.{HostOutcome, plant_rule, long_enough, host_event}

@@ -1,1 +1,1 @@
-pub mod GotLaws
+pub mod WriteLaws

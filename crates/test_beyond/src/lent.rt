@@ -50,7 +50,7 @@ pub(crate) fn put_back(before: &[u8; MEMORY], mem: &mut [u8]) {
 }
 
 // Where the zeros begin and end, how many there are, and how many bytes are neither zero nor as they were filled.
-#[derive(Drop)]
+#[derive(Clone, Copy)]
 pub struct Zeros {
     pub first: u64,
     pub end: u64,

@@ -1,38 +1,43 @@
 // The TSB lists as they are kept.
 use crate::say::{say, say_number};
 use rules::{CPUS, GUESTS, Tables, Tsb, Tsbs};
+use std::io;
 
-fn say_tsb(t: Tsb, end: &[u8]) {
-    say_number(t.index as u64, b" ");
-    say_number(t.associativity as u64, b" ");
-    say_number(t.entries as u64, b" ");
-    say_number(t.context as u64, b" ");
-    say_number(t.mask as u64, b" ");
-    say_number(t.base, end);
+fn say_tsb<P: Print>(rt: &P, t: Tsb, end: &str) -> io::Result<()> {
+    print!(rt;
+        "{:x} {:x} {:x} {:x} {:x} {:x}{end}",
+        t.index, t.associativity, t.entries, t.context, t.mask, t.base
+    )
 }
 
 // The count and all four places, each with its fields in the order of the descriptor.
-fn show_list(list: Tsbs) {
-    say_number(list.tsbs as u64, b", ");
+fn show_list<P: Print>(rt: &P, list: Tsbs) -> io::Result<()> {
+    say_number(rt, list.tsbs as u64, ", ")?;
     let places = list.tsb;
-    say_tsb(places[0], b", ");
-    say_tsb(places[1], b", ");
-    say_tsb(places[2], b", ");
-    say_tsb(places[3], b"\n");
+    say_tsb(rt, places[0], ", ")?;
+    say_tsb(rt, places[1], ", ")?;
+    say_tsb(rt, places[2], ", ")?;
+    say_tsb(rt, places[3], "\n")
 }
 
 // Of guest g's cpu c the list of 0x20, or that of 0x21.
-pub(crate) fn show_list_of(tables: Tables, g: usize, c: usize, nonzero: bool) {
+pub(crate) fn show_list_of<P: Print>(
+    rt: &P,
+    tables: Tables,
+    g: usize,
+    c: usize,
+    nonzero: bool,
+) -> io::Result<()> {
     if GUESTS <= g {
-        return say(b"bad\n");
+        return say(rt, "bad\n");
     }
     if CPUS <= c {
-        return say(b"bad\n");
+        return say(rt, "bad\n");
     }
     let guest = tables.guest[g];
     let plant = guest.plant;
     let cpu = plant.cpu[c];
     let ctx0 = cpu.ctx0;
     let ctxnon0 = cpu.ctxnon0;
-    show_list(if nonzero { ctxnon0 } else { ctx0 });
+    show_list(rt, if nonzero { ctxnon0 } else { ctx0 })
 }

@@ -12,8 +12,8 @@ mod step;
 ghost use Rattle.std.specs.Prelude.{◌≤◌, length};
 
 use lent::filled;
-use libc::STDIN_FILENO;
-use step::Bench;
+use std::io;
+use std::io::Read;
 
 // The place of the next line feed, or the end.
 fn line_end(s: &[u8], at: usize) -> usize
@@ -30,19 +30,20 @@ fn line_end(s: &[u8], at: usize) -> usize
     i
 }
 
-fn run_all(mem: &mut [u8], input: &[u8]) {
+fn run_all<P: Print>(rt: &P, mem: &mut [u8], input: &[u8]) -> io::Result<()> {
     let mut bench = step::begin();
     let mut at = 0;
     while at < input.len() {
         let end = line_end(input, at);
-        bench = step::run_line(bench, mem, &input[at..end]);
+        bench = step::run_line(rt, bench, mem, &input[at..end])?;
         at = end + 1;
     }
+    Ok(())
 }
 
-fn main() {
+fn main(rt: HostRuntime) -> io::Result<()> {
     let mut mem = filled();
-    let mut input = io::large_buffer();
-    let n = io::read_full(STDIN_FILENO, &mut input);
-    run_all(&mut mem, &input[..n]);
+    let mut input = Vec::new(rt.alloc());
+    rt.stdin().read_to_end(&mut input)?;
+    run_all(&rt, &mut mem, &input)
 }

@@ -1,33 +1,31 @@
 // What is printed.
-use libc::STDOUT_FILENO;
+use std::io;
 
-pub(crate) fn say(text: &[u8]) {
-    io::write_all(STDOUT_FILENO, text);
+pub(crate) fn say<P: Print>(rt: &P, text: &str) -> io::Result<()> {
+    print!(rt; "{text}")
 }
 
 // In hex, with what stands behind it.
-pub(crate) fn say_number(n: u64, end: &[u8]) {
-    io::print_hex(STDOUT_FILENO, n, 1);
-    say(end);
+pub(crate) fn say_number<P: Print>(rt: &P, n: u64, end: &str) -> io::Result<()> {
+    print!(rt; "{n:x}{end}")
 }
 
-pub(crate) fn say_numbers(ns: [u64; 5]) {
-    say_number(ns[0], b" ");
-    say_number(ns[1], b" ");
-    say_number(ns[2], b" ");
-    say_number(ns[3], b" ");
-    say_number(ns[4], b" ");
+pub(crate) fn say_numbers<P: Print>(rt: &P, ns: [u64; 5]) -> io::Result<()> {
+    print!(rt;
+        "{:x} {:x} {:x} {:x} {:x} ",
+        ns[0], ns[1], ns[2], ns[3], ns[4]
+    )
 }
 
 // What is other than before.
-pub(crate) fn say_changed(tables: bool, memory: bool) {
+pub(crate) fn say_changed<P: Print>(rt: &P, tables: bool, memory: bool) -> io::Result<()> {
     if tables & memory {
-        say(b"both\n");
+        say(rt, "both\n")
     } else if tables {
-        say(b"tables\n");
+        say(rt, "tables\n")
     } else if memory {
-        say(b"memory\n");
+        say(rt, "memory\n")
     } else {
-        say(b"nothing\n");
+        say(rt, "nothing\n")
     }
 }

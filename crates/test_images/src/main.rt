@@ -3,112 +3,128 @@
 #![tactic(auto)]
 
 use image::load;
-use io::print_decimal;
-use libc::STDOUT_FILENO;
+use std::io;
 
-fn show(name: &[u8], s: &[u8]) {
-    let loaded = load(s);
+fn show<P: Print>(rt: &P, name: &str, bytes: &[u8]) -> io::Result<()> {
+    let loaded = load(bytes);
     let answer = loaded.answer;
     let numbers = text::loading_numbers(answer);
-    print_decimal(STDOUT_FILENO, numbers[0]);
-    io::write_all(STDOUT_FILENO, b" ");
-    print_decimal(STDOUT_FILENO, numbers[1]);
-    io::write_all(STDOUT_FILENO, b" ");
-    print_decimal(STDOUT_FILENO, numbers[2]);
-    io::write_all(STDOUT_FILENO, b" ");
-    io::write_all(STDOUT_FILENO, name);
-    io::write_all(STDOUT_FILENO, b"\n");
+    println!(rt; "{} {} {} {name}", numbers[0], numbers[1], numbers[2])
 }
 
-fn main() {
+fn main(rt: HostRuntime) -> io::Result<()> {
     show(
-        b"the worked image",
+        &rt,
+        "the worked image",
         b"\x12\x22\x10\x00\x00\x00\x00\x01\x00\x00\x00\x00\x10\x00\xb1\x21\x00\x00\x00\x00\x00\x10\x00\x10\x00\x02\x00\x0b",
-    );
-    show(b"no bit", b"");
+    )?;
+    show(&rt, "no bit", b"")?;
     show(
-        b"its last byte missing",
+        &rt,
+        "its last byte missing",
         b"\x12\x22\x10\x00\x00\x00\x00\x01\x00\x00\x00\x00\x10\x00\xb1\x21\x00\x00\x00\x00\x00\x10\x00\x10\x00\x02\x00",
-    );
+    )?;
     show(
-        b"edition 2",
+        &rt,
+        "edition 2",
         b"\x22\x22\x10\x00\x00\x00\x00\x01\x00\x00\x00\x00\x10\x00\xb1\x21\x00\x00\x00\x00\x00\x10\x00\x10\x00\x02\x00\x0b",
-    );
-    show(b"no guest", b"\x10");
+    )?;
+    show(&rt, "no guest", b"\x10")?;
     show(
-        b"five guests",
+        &rt,
+        "five guests",
         b"\x15\x22\x10\x00\x00\x00\x00\x01\x00\x00\x00\x00\x10\x00\xb0",
-    );
-    show(b"no cpu", b"\x11\x02\x00\x00\x00\x00\x00\x01\x00\x00");
-    show(b"nine cpus", b"\x11\x92\x00\x00\x00\x00\x00\x01\x00\x00");
-    show(b"no extent", b"\x11\x10\x00");
+    )?;
+    show(&rt, "no cpu", b"\x11\x02\x00\x00\x00\x00\x00\x01\x00\x00")?;
     show(
-        b"seven extents, on host pages that descend",
+        &rt,
+        "nine cpus",
+        b"\x11\x92\x00\x00\x00\x00\x00\x01\x00\x00",
+    )?;
+    show(&rt, "no extent", b"\x11\x10\x00")?;
+    show(
+        &rt,
+        "seven extents, on host pages that descend",
         b"\x11\x1e\x00\x00\x00\x00\x00\x01\x00\x06\x00\x00\x00\x20\x00\x10\x00\x50\x00\x00\x04\x00\x01\x00\x04\x00\x00\x00\x60\x00\
           \x10\x00\x30\x00\x00\x08\x00\x01\x00\x02\x00\x00\x00\xa0\x00\x10\x00\x10\x00\x00\x0c\x00\x01\x00\x00",
-    );
+    )?;
     show(
-        b"host pages shared by the first extent and the seventh",
+        &rt,
+        "host pages shared by the first extent and the seventh",
         b"\x11\x1e\x00\x00\x00\x00\x00\x01\x00\x06\x00\x00\x00\x20\x00\x10\x00\x50\x00\x00\x04\x00\x01\x00\x04\x00\x00\x00\x60\x00\
           \x10\x00\x30\x00\x00\x08\x00\x01\x00\x02\x00\x00\x00\xa0\x00\x10\x00\x10\x00\x00\x0c\x00\x01\x00\x06",
-    );
+    )?;
     show(
-        b"seventeen sources",
+        &rt,
+        "seventeen sources",
         b"\x11\x13\x10\x00\x00\x00\x00\x01\x00\x00\x00\x00\x00\x00\x00\x00\x00\x01\x00\x00\x00\x00\x20\x00\x00\x00\x03\x00\x00\x00\
           \x00\x40\x00\x00\x00\x05\x00\x00\x00\x00\x60\x00\x00\x00\x07\x00\x00\x00\x00\x80\x00\x00\x00\x09\x00\x00\x00\x00\xa0\x00\
           \x00\x00\x0b\x00\x00\x00\x00\xc0\x00\x00\x00\x0d\x00\x00\x00\x00\xe0\x00\x00\x00\x0f\x00\x00\x00\x01\x00\x00",
-    );
-    show(b"a count behind which bits are missing", b"\x11\x12");
+    )?;
+    show(&rt, "a count behind which bits are missing", b"\x11\x12")?;
     show(
-        b"an extent with no page",
+        &rt,
+        "an extent with no page",
         b"\x11\x12\x00\x00\x00\x00\x00\x00\x00\x00",
-    );
+    )?;
     show(
-        b"an extent past the last real page",
+        &rt,
+        "an extent past the last real page",
         b"\x11\x12\x0f\xff\xff\xff\x00\x02\x00\x00",
-    );
+    )?;
     show(
-        b"an extent up to the last real page",
+        &rt,
+        "an extent up to the last real page",
         b"\x11\x12\x0f\xff\xff\xff\x00\x01\x00\x00",
-    );
+    )?;
     show(
-        b"an extent past the last host page",
+        &rt,
+        "an extent past the last host page",
         b"\x11\x12\x00\x00\x00\x00\x00\x02\xff\xff",
-    );
+    )?;
     show(
-        b"extents that do not ascend",
+        &rt,
+        "extents that do not ascend",
         b"\x11\x14\x00\x00\x00\x04\x00\x01\x00\x00\x00\x00\x00\x00\x00\x10\x00\x10",
-    );
+    )?;
     show(
-        b"extents that overlap",
+        &rt,
+        "extents that overlap",
         b"\x11\x14\x00\x00\x00\x00\x00\x02\x00\x00\x00\x00\x00\x10\x00\x10\x00\x50",
-    );
+    )?;
     show(
-        b"extents that touch, in real and in host pages",
+        &rt,
+        "extents that touch, in real and in host pages",
         b"\x11\x14\x00\x00\x00\x00\x00\x02\x00\x00\x00\x00\x00\x20\x00\x10\x00\x20",
-    );
+    )?;
     show(
-        b"host pages shared by neighbours of one guest",
+        &rt,
+        "host pages shared by neighbours of one guest",
         b"\x11\x14\x00\x00\x00\x00\x00\x02\x00\x00\x00\x00\x00\x80\x00\x20\x00\x10",
-    );
+    )?;
     show(
-        b"host pages shared by the first guest and the last",
+        &rt,
+        "host pages shared by the first guest and the last",
         b"\x13\x12\x00\x00\x00\x00\x00\x02\x00\x00\x12\x00\x00\x00\x00\x00\x01\x00\x09\x12\x00\x00\x00\x00\x00\x01\x00\x01",
-    );
+    )?;
     show(
-        b"a source named twice in one guest",
+        &rt,
+        "a source named twice in one guest",
         b"\x11\x12\x20\x00\x00\x00\x00\x01\x00\x00\x00\x00\x00\x70\x20\x00\x00\x07\x03",
-    );
+    )?;
     show(
-        b"a source named twice in two guests",
+        &rt,
+        "a source named twice in two guests",
         b"\x12\x12\x10\x00\x00\x00\x00\x01\x00\x00\x00\x00\x00\x70\x21\x21\x00\x00\x00\x00\x00\x10\x00\x10\x00\x00\x07\x02",
-    );
+    )?;
     show(
-        b"a fill bit set",
+        &rt,
+        "a fill bit set",
         b"\x11\x12\x10\x00\x00\x00\x00\x01\x00\x00\x00\x00\x00\x70\x21",
-    );
+    )?;
     show(
-        b"one byte behind",
+        &rt,
+        "one byte behind",
         b"\x12\x22\x10\x00\x00\x00\x00\x01\x00\x00\x00\x00\x10\x00\xb1\x21\x00\x00\x00\x00\x00\x10\x00\x10\x00\x02\x00\x0b\x00",
-    );
+    )
 }

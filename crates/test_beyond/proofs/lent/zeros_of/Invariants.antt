@@ -1,0 +1,9 @@
+-- The place is never past the end.
+use Rattle.std.proofs.Common.{length, ◌-◌, ◌≤◌}
+use Rattle.test_beyond.proofs.lent.zeros_of.Given as goal
+
+abbrev pub invariant-loop-i : goal.invariant-loop-i
+invariant-loop-i l = l.i ≤ length l.mem
+
+abbrev pub decreases-loop-i : goal.decreases-loop-i
+decreases-loop-i l = length l.mem - l.i
