@@ -1,4 +1,5 @@
 -- Laws of bits and fields: how a field grows by a bit, and what each answer is and tells.
+use Rattle.std.specs.Prelude.{if◌then◌else◌}
 use borrow.Author.Tests.{le-leb, lt-leb, leb-true, leb-false}
 use mathlib.Core.Bool.{Bool, true, false, ◌&&◌}
 use mathlib.Core.Path.{◌≡◌, refl, sym, ◌∙◌}
@@ -11,7 +12,6 @@ use lib.ListN.{length, get_or}
 use lib.Dec.{leb}
 use lib.Pow.{pow_mono}
 use Rattle.rules.specs.Bits.{bit_at, field_at, reaches}
-use Rattle.rules.specs.Rulings.{if◌then◌else◌}
 use Rattle.bits.specs.declared.Field.{Field}
 use Rattle.bits.specs.declared.Field.TheVariants.{Value, Missing}
 use Rattle.bits.specs.Field.{field_of}

@@ -1,7 +1,6 @@
 -- What reading a field of bits answers.
-use Rattle.std.specs.Prelude.{◌&&◌, ℕ, ◌+◌, List, leb}
+use Rattle.std.specs.Prelude.{◌&&◌, ℕ, ◌+◌, List, leb, if◌then◌else◌}
 use Rattle.rules.specs.Bits.{field_at, reaches}
-use Rattle.rules.specs.Rulings.{if◌then◌else◌}
 use Rattle.bits.specs.declared.Field.{Field}
 use Rattle.bits.specs.declared.Field.TheVariants.{Value, Missing}
 

@@ -1,4 +1,5 @@
 -- The cpu whose record an event looks at: it has a place in the plant's record, and is the event's own where the plant has that cpu.
+use Rattle.std.specs.Prelude.{if◌then◌else◌}
 use mathlib.Core.Path.{◌≡◌, refl}
 use mathlib.Core.Bool.{Bool, true, false}
 use Prim.Native.Nat.{ℕ, ◌≤◌, ◌<◌}
@@ -16,7 +17,6 @@ use Rattle.rules.specs.declared.Source.{Source}
 use Rattle.rules.specs.declared.TsbHit.{TsbHit}
 use Rattle.rules.specs.Kept.{cpu_at, source_at}
 use Rattle.rules.specs.Limits.{cpu_limit}
-use Rattle.rules.specs.Rulings.{if◌then◌else◌}
 use Rattle.records.specs.Sound.{Sound}
 use Rattle.sources.specs.declared.Named.{Named}
 use Rattle.sources.specs.Seen.{named_in}

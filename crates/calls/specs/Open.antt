@@ -1,7 +1,6 @@
 -- What `admitted` asks of a group's negotiated major, by the code's own functions.
-use Rattle.std.specs.Prelude.{ℕ, leb, eqb}
+use Rattle.std.specs.Prelude.{ℕ, leb, eqb, if◌then◌else◌}
 use Rattle.rules.specs.declared.Refusal.TheVariants.{EBADTRAP, ENOTSUPPORTED}
-use Rattle.rules.specs.Rulings.{if◌then◌else◌}
 use Rattle.records.specs.declared.Verdict.{Verdict}
 use Rattle.records.specs.declared.Verdict.TheVariants.{Right, Refused}
 

@@ -1,9 +1,8 @@
 -- The cpu whose record a host takes out of the plant's for an event.
-use Rattle.std.specs.Prelude.{ℕ, ltb}
+use Rattle.std.specs.Prelude.{ℕ, ltb, if◌then◌else◌}
 use Rattle.rules.specs.declared.Event.{Event}
 use Rattle.rules.specs.declared.Plant.{Plant}
 use Rattle.rules.specs.Limits.{cpu_limit}
-use Rattle.rules.specs.Rulings.{if◌then◌else◌}
 use Rattle.sources.specs.declared.Named.{Named}
 use Rattle.sources.specs.Seen.{named_in}
 

@@ -1,4 +1,5 @@
 -- Of a long input the first 97 lines of 2,049 bytes are enough: each good line takes a place of the tables, which have 96, and a longer line is bad.
+use Rattle.std.specs.Prelude.{if◌then◌else◌}
 use mathlib.Core.Bool.{Bool, true, false, ◌&&◌}
 use mathlib.Core.Path.{◌≡◌, refl, sym, ◌∙◌}
 use mathlib.Core.List.{List, [], ◌∷◌}
@@ -15,7 +16,6 @@ use Rattle.rules.specs.declared.Tables.{Tables}
 use Rattle.rules.specs.declared.PlanLine.{PlanLine}
 use Rattle.rules.specs.declared.Stage.{Stage}
 use Rattle.rules.specs.declared.Desk.{Desk}
-use Rattle.rules.specs.Rulings.{if◌then◌else◌}
 use Rattle.rules.specs.Kept.{no_guests, hollow_guest}
 use Rattle.rules.specs.Text.{Line, bad, image, event, parse, line_feed, word_bad}
 use Rattle.rules.specs.Session.{lines_from}

@@ -1,4 +1,5 @@
 -- What a line of a plan adds, at each return of the code, from the tests on the way: t is what the code's test of a word came to.
+use Rattle.std.specs.Prelude.{if◌then◌else◌}
 use mathlib.Core.Bool.{Bool, true, false, ◌&&◌, not, and-false, false≢true}
 use mathlib.Core.Path.{◌≡◌, refl, sym, ap, ◌∙◌}
 use mathlib.Core.List.{List}
@@ -13,7 +14,6 @@ use borrow.Author.Tests.{ltb-true, leb-false, le-leb, lt-leb, ne_eqb}
 use Rattle.rules.specs.declared.Extent.{Extent}
 use Rattle.rules.specs.declared.Source.{Source}
 use Rattle.rules.specs.declared.PlanLine.{PlanLine}
-use Rattle.rules.specs.Rulings.{if◌then◌else◌}
 use Rattle.rules.specs.Text.{same, fields}
 use Rattle.rules.specs.Plan.{word_guest, word_extent, source_word, extent_of, extent_held, source_of, source_held, addition_of, addition_or, plan_line}
 use Rattle.rules.proofs.Tests.{and_left, and_right}

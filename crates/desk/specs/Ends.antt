@@ -1,6 +1,5 @@
 -- The input cut at its line feeds: what the code answers of a part of it.
-use Rattle.std.specs.Prelude.{ℕ, suc, List, [], ◌∷◌, eqb}
-use Rattle.rules.specs.Rulings.{if◌then◌else◌}
+use Rattle.std.specs.Prelude.{ℕ, suc, List, [], ◌∷◌, eqb, if◌then◌else◌}
 use Rattle.rules.specs.Text.{line_feed}
 
 -- the length of the first line

@@ -1,4 +1,5 @@
 -- The host's rule at each return of the code, and in the steps that a session takes one by one.
+use Rattle.std.specs.Prelude.{if◌then◌else◌}
 use mathlib.Core.Path.{◌≡◌, refl, sym, ap, ◌∙◌}
 use mathlib.Core.Bool.{Bool, true, false, not, false≢true}
 use mathlib.Core.List.{List}
@@ -16,7 +17,7 @@ use Rattle.rules.specs.declared.Refusal.TheVariants.{BadTables, ShortMemory, NoC
 use Rattle.rules.specs.declared.Tables.{Tables}
 use Rattle.rules.specs.Kept.{guest_at, plant_at, extents_of, with_plant}
 use Rattle.rules.specs.Real.{sight_of}
-use Rattle.rules.specs.Rulings.{Ruling, refused, granted, outcome_of, ◌or_refuse◌then◌, if◌then◌else◌}
+use Rattle.rules.specs.Rulings.{Ruling, refused, granted, outcome_of, ◌or_refuse◌then◌}
 use Rattle.rules.specs.Tables.{keep_rules}
 use Rattle.rules.specs.Limits.{guest_limit, cpu_limit, source_limit}
 use Rattle.rules.specs.Host.{HostOutcome, plant_rule, put_back, answered_by, owner_of, long_enough, host_rule, host_event}

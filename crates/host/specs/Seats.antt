@@ -1,10 +1,9 @@
 -- "Before anything", in the code's two steps: the door, which looks at tables and memory alone, and the guest that answers.
-use Rattle.std.specs.Prelude.{ℕ, ltb}
+use Rattle.std.specs.Prelude.{ℕ, ltb, if◌then◌else◌}
 use Rattle.rules.specs.declared.Event.{Event}
 use Rattle.rules.specs.declared.Owner.{Owner}
 use Rattle.rules.specs.declared.Refusal.TheVariants.{BadTables, ShortMemory, NoCaller, NoSource}
 use Rattle.rules.specs.declared.Tables.{Tables}
-use Rattle.rules.specs.Rulings.{if◌then◌else◌}
 use Rattle.rules.specs.Tables.{keep_rules}
 use Rattle.rules.specs.Host.{owner_of, long_enough}
 use Rattle.records.specs.declared.Verdict.{Verdict}

@@ -1,4 +1,5 @@
 -- Promise: an accepted image gives tables that keep the rules.
+use Rattle.std.specs.Prelude.{if◌then◌else◌}
 use mathlib.Core.Path.{◌≡◌, refl, ap, ◌∙◌}
 use mathlib.Core.Bool.{Bool, true, false, ◌&&◌}
 use mathlib.Core.List.{List}
@@ -20,7 +21,7 @@ use Rattle.rules.specs.Limits.{guest_limit, cpu_limit, extent_limit, source_limi
 use Rattle.rules.specs.Kept.{blank_extent, blank_cpu, blank_source, blank_guest, hollow_cpu, hollow_guest, no_versions, no_guests, guest_at, extent_at, cpu_at, source_at}
 use Rattle.rules.specs.Bits.{field_at, reaches}
 use Rattle.rules.specs.Real.{valid}
-use Rattle.rules.specs.Rulings.{RulingBy, refused, granted, ◌or_refuse◌then◌, ◌refuses◌then◌, if◌then◌else◌}
+use Rattle.rules.specs.Rulings.{RulingBy, refused, granted, ◌or_refuse◌then◌, ◌refuses◌then◌}
 use Rattle.rules.specs.Widths.{edition_width, guests_width, header_bits, cpus_width, extents_width, sources_width, counts_bits, extent_bits, devhandle_width, devino_width, source_bits}
 use Rattle.rules.specs.Image.{Reading, ◌bits_at◌of◌from◌to◌else◌, filled, read_extent, read_source, read_lists, read_guest, Partition, read_guests, behind, read_header, Fields, read_fields, extent_right, right_at, follows, ascend, at_extent, at_source, breaks, first_breaking, shares_before, named_before, filled_out, judged, read_image, loaded_as, load}
 use Rattle.rules.specs.Tables.{list_right, cpu_blank, cpu_right, source_blank, source_right, cookie_right, enabled_right, versions_right, extent_blank, extents_keep, plant_keeps, guest_keeps, guest_blank, keep_rules}

@@ -1,4 +1,5 @@
 -- Every event of a plant leaves a record that keeps the rules.
+use Rattle.std.specs.Prelude.{if◌then◌else◌}
 use mathlib.Core.Path.{◌≡◌, refl}
 use mathlib.Core.Bool.{Bool, true, false, ◌&&◌, not}
 use Prim.Native.Nat.{ℕ, ◌%◌, ◌≤◌, ◌<◌}
@@ -10,7 +11,7 @@ use Rattle.rules.specs.declared.Function.{Function}
 use Rattle.rules.specs.declared.Plant.{Plant}
 use Rattle.rules.specs.declared.Refusal.TheVariants.{EINVAL, EBADALIGN, ENORADDR, EBADTRAP, ENOTSUPPORTED, NoCaller}
 use Rattle.rules.specs.Real.{Sight}
-use Rattle.rules.specs.Rulings.{Ruling, granted, Outcome, ◌or_refuse◌then◌, ◌grants◌, if◌then◌else◌}
+use Rattle.rules.specs.Rulings.{Ruling, granted, Outcome, ◌or_refuse◌then◌, ◌grants◌}
 use Rattle.rules.specs.Versions.{group_of, known, major_of, get_version}
 use Rattle.rules.specs.Queues.{is_queue, cpu_qinfo, cpu_myid, write_head}
 use Rattle.rules.specs.Memory.{whole_pages, mem_scrub, mem_sync, whole_word, store_word, load_word, mmustat_info}

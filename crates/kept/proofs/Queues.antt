@@ -1,4 +1,5 @@
 -- The queue calls, mondos among them, leave a record that keeps the rules.
+use Rattle.std.specs.Prelude.{if◌then◌else◌}
 use mathlib.Core.Path.{◌≡◌, refl}
 use mathlib.Core.Bool.{Bool, true, false, ◌&&◌, not}
 use mathlib.Core.List.{List, [], ◌∷◌}
@@ -14,7 +15,7 @@ use Rattle.rules.specs.Limits.{queue_limit}
 use Rattle.rules.specs.Scan.{some_below}
 use Rattle.rules.specs.Kept.{cpu_at, queue_at, cpu_with_queue, with_queue, with_head}
 use Rattle.rules.specs.Real.{Sight, bytes_from}
-use Rattle.rules.specs.Rulings.{Ruling, granted, Outcome, done, ◌or_refuse◌then◌, ◌grants◌, if◌then◌else◌}
+use Rattle.rules.specs.Rulings.{Ruling, granted, Outcome, done, ◌or_refuse◌then◌, ◌grants◌}
 use Rattle.rules.specs.Queues.{is_queue, index_of, new_ring, put_in, put, forward, ring_of, cpu_qconf, write_head}
 use Rattle.rules.specs.Mondo.{listed_cpu, listed_cpus, passed_over, is_caller, is_stranger, send_one, send_all, sent_as, cpu_mondo_send}
 use Rattle.rules.specs.Tables.{record_right, ring_right, plant_keeps}

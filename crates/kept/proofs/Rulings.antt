@@ -1,10 +1,11 @@
 -- Rulings whose record keeps the rules, by the way a rule reads.
+use Rattle.std.specs.Prelude.{if◌then◌else◌}
 use mathlib.Core.Path.{◌≡◌, refl}
 use mathlib.Core.Bool.{Bool, true, false}
 use Prim.Native.Nat.{ℕ}
 use Rattle.rules.specs.declared.Plant.{Plant}
 use Rattle.rules.specs.declared.Refusal.{Refusal}
-use Rattle.rules.specs.Rulings.{Ruling, refused, granted, Outcome, outcome_of, ◌or_refuse◌then◌, ◌grants◌, if◌then◌else◌}
+use Rattle.rules.specs.Rulings.{Ruling, refused, granted, Outcome, outcome_of, ◌or_refuse◌then◌, ◌grants◌}
 use Rattle.rules.specs.Tables.{plant_keeps}
 use Rattle.kept.proofs.Plants.{Kept, unchanged}
 

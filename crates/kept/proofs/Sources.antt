@@ -1,4 +1,5 @@
 -- The source calls and raise leave a record that keeps the rules.
+use Rattle.std.specs.Prelude.{if◌then◌else◌}
 use mathlib.Core.Path.{◌≡◌, refl, sym, ap}
 use mathlib.Core.Bool.{Bool, true, false, ◌&&◌, ◌||◌, not, or-true, true≢false}
 use Prim.Native.Nat.{ℕ, ◌≤◌, ◌<◌}
@@ -15,7 +16,7 @@ use Rattle.rules.specs.declared.Source.{Source}
 use Rattle.rules.specs.declared.SourceCall.{SourceCall}
 use Rattle.rules.specs.Limits.{devhandles, devinos}
 use Rattle.rules.specs.Kept.{source_at, with_source, with_queue, with_enabled, with_state, with_target, with_cookie}
-use Rattle.rules.specs.Rulings.{Ruling, granted, Outcome, says, done, ◌or_refuse◌then◌, if◌then◌else◌}
+use Rattle.rules.specs.Rulings.{Ruling, granted, Outcome, says, done, ◌or_refuse◌then◌}
 use Rattle.rules.specs.Queues.{Put, put}
 use Rattle.rules.specs.Sources.{sysino_of, found, get_enabled, set_enabled, get_state, set_state, get_target, set_target, get_cookie, set_cookie, intr_devino2sysino, source_call, cookie_call, intr, vintr, device_entry, raise_at, raise}
 use Rattle.rules.specs.Tables.{cookie_right, enabled_right, source_right, plant_keeps}

@@ -1,4 +1,5 @@
 -- TSB lists and the statistics address leave a record that keeps the rules.
+use Rattle.std.specs.Prelude.{if◌then◌else◌}
 use mathlib.Core.Path.{◌≡◌, refl, ap, ◌∙◌}
 use mathlib.Core.Bool.{Bool, true, false, ◌&&◌, not}
 use mathlib.Core.List.{List}
@@ -15,7 +16,7 @@ use Rattle.rules.specs.declared.Tsbs.{Tsbs}
 use Rattle.rules.specs.Limits.{tsb_limit}
 use Rattle.rules.specs.Kept.{cpu_at, blank_tsb, blank_tsbs, cpu_with_ctx0, with_ctx0, cpu_with_ctxnon0, with_ctxnon0, cpu_with_statistics, with_statistics}
 use Rattle.rules.specs.Real.{Sight}
-use Rattle.rules.specs.Rulings.{Ruling, refused, granted, accepts, done, ◌or_refuse◌then◌, ◌grants◌, if◌then◌else◌}
+use Rattle.rules.specs.Rulings.{Ruling, refused, granted, accepts, done, ◌or_refuse◌then◌, ◌grants◌}
 use Rattle.rules.specs.Scan.{power_of_two◌from◌to◌}
 use Rattle.rules.specs.Tsb.{descriptor_at, is_page_index, ◌is_inside◌, is_lowest, judged_tsb, descriptors, new_tsbs, mmu_tsb_ctx0, mmu_tsb_ctxnon0}
 use Rattle.rules.specs.Memory.{new_statistics, set_or_clear, mmustat_conf}

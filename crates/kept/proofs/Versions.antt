@@ -1,4 +1,5 @@
 -- Set version leaves a record that keeps the rules.
+use Rattle.std.specs.Prelude.{if◌then◌else◌}
 use mathlib.Core.Path.{◌≡◌, refl, ap, ◌∙◌}
 use mathlib.Core.Bool.{Bool, true, false, ◌&&◌, ◌||◌, not, and-false, or-true}
 use mathlib.Core.List.{map}
@@ -15,7 +16,7 @@ use Rattle.rules.specs.declared.Source.{Source}
 use Rattle.rules.specs.declared.Versions.{Versions}
 use Rattle.rules.specs.Limits.{source_limit}
 use Rattle.rules.specs.Kept.{source_at, blank_source, with_versions}
-use Rattle.rules.specs.Rulings.{Ruling, Outcome, says, ◌or_refuse◌then◌, if◌then◌else◌}
+use Rattle.rules.specs.Rulings.{Ruling, Outcome, says, ◌or_refuse◌then◌}
 use Rattle.rules.specs.Versions.{group_of, known, newest, major_of, with_major, disabled, all_disabled, negotiated, set_version}
 use Rattle.rules.specs.Tables.{list_right, cookie_right, enabled_right, source_right, source_blank, versions_right, plant_keeps}
 use Rattle.rules.proofs.Tests.{and_left, and_right}

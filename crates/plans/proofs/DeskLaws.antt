@@ -1,4 +1,5 @@
 -- What is printed at each stage of the desk, and that tables which were loaded keep the rules.
+use Rattle.std.specs.Prelude.{if◌then◌else◌}
 use Prim.Native.Nat.{ℕ, suc, ◌≤◌}
 use mathlib.Core.Path.{◌≡◌, refl, sym, ◌∙◌}
 use mathlib.Core.Bool.{Bool, true, false, ◌&&◌}
@@ -17,7 +18,7 @@ use Rattle.rules.specs.declared.Tables.{Tables}
 use Rattle.rules.specs.declared.WriteRefusal.{WriteRefusal}
 use Rattle.rules.specs.declared.Writing.{Writing}
 use Rattle.rules.specs.Limits.{guest_limit, extent_limit, source_limit}
-use Rattle.rules.specs.Rulings.{RulingBy, refused, granted, ◌or_refuse◌then◌, if◌then◌else◌}
+use Rattle.rules.specs.Rulings.{RulingBy, refused, granted, ◌or_refuse◌then◌}
 use Rattle.rules.specs.Tables.{keep_rules}
 use Rattle.rules.specs.Statuses.{write_status}
 use Rattle.rules.specs.Text.{Line, bad, image, event, parse}

@@ -1,4 +1,5 @@
 -- Laws of a word's line: a byte behind a text, numbers behind a word, and how long lines get.
+use Rattle.std.specs.Prelude.{if◌then◌else◌}
 use Prim.Native.Nat.{ℕ, suc, ◌+◌, ◌*◌, ◌<◌, ◌≤◌}
 use mathlib.Core.Path.{◌≡◌, refl}
 use mathlib.Core.List.{List, [], ◌∷◌, ◌++◌, append_assoc}
@@ -11,7 +12,6 @@ use Rattle.rules.specs.declared.Source.{Source}
 use Rattle.rules.specs.Limits.{extent_limit, source_limit}
 use Rattle.rules.specs.Scan.{each_below}
 use Rattle.rules.specs.Kept.{extent_at, source_at}
-use Rattle.rules.specs.Rulings.{if◌then◌else◌}
 use Rattle.rules.specs.Text.{space}
 use Rattle.rules.specs.Plan.{word_guest, word_extent, source_word, word_line, extent_line, source_line, guest_lines}
 use Rattle.text.specs.Printed.{numbers_text}

@@ -1,11 +1,10 @@
 // A plan: the lines of each guest, its extents and its sources. What a function has room for is its own lines, of at most 23 bytes for a
 // guest and 58 for an extent or a source, and the most that a line asks for.
-ghost use Rattle.std.specs.Prelude.{◌≡◌, true, ◌+◌, ◌≤◌};
+ghost use Rattle.std.specs.Prelude.{◌≡◌, true, ◌+◌, ◌≤◌, if◌then◌else◌};
 ghost use Rattle.rules.specs.Limits.{extent_limit, source_limit};
 ghost use Rattle.rules.specs.Scan.{each_below};
 ghost use Rattle.rules.specs.Kept.{extent_at, source_at};
 ghost use Rattle.rules.specs.Tables.{keep_rules};
-ghost use Rattle.rules.specs.Rulings.{if◌then◌else◌};
 ghost use Rattle.rules.specs.Plan.{extent_line, source_line, guest_lines, plan_text};
 ghost use Rattle.reasons.specs.Put.{Put};
 

@@ -1,5 +1,5 @@
 -- What an event changes of its plant's record, and the record after.
-use Rattle.std.specs.Prelude.{◌&&◌, List, [], ◌∷◌, ℕ, zero, suc, ltb, get_or, replicate}
+use Rattle.std.specs.Prelude.{◌&&◌, List, [], ◌∷◌, ℕ, zero, suc, ltb, get_or, replicate, if◌then◌else◌}
 use Rattle.rules.specs.declared.Answer.{Answer}
 use Rattle.rules.specs.declared.Cpu.{Cpu}
 use Rattle.rules.specs.declared.Plant.{Plant}
@@ -8,7 +8,6 @@ use Rattle.rules.specs.declared.Tsbs.{Tsbs}
 use Rattle.rules.specs.Limits.{cpu_limit, queue_limit, source_limit}
 use Rattle.rules.specs.Kept.{blank_tsbs, cpu_at, queue_at, with_versions, with_cpu, with_queue, with_source, with_tail, cpu_with_queue, cpu_with_ctx0, cpu_with_ctxnon0, cpu_with_statistics}
 use Rattle.rules.specs.Queues.{index_of}
-use Rattle.rules.specs.Rulings.{if◌then◌else◌}
 use Rattle.rules.specs.Versions.{all_disabled}
 use Rattle.plants.specs.declared.change.Change.{Change}
 use Rattle.plants.specs.declared.change.CpuChange.{CpuChange}

@@ -1,4 +1,5 @@
 -- What a ruling grants, by the way a rule reads. A refusal grants nothing, so that there is nothing to show of it.
+use Rattle.std.specs.Prelude.{if◌then◌else◌}
 use mathlib.Core.Path.{◌≡◌, refl, sym, ◌∙◌}
 use mathlib.Core.Bool.{Bool, true, false, ◌&&◌, not}
 use mathlib.Core.List.{List, []}
@@ -14,7 +15,7 @@ use Rattle.rules.specs.declared.Refusal.TheVariants.{EINVAL, EBADALIGN, ENORADDR
 use Rattle.rules.specs.declared.TsbHit.{TsbHit}
 use Rattle.rules.specs.Kept.{cpu_at}
 use Rattle.rules.specs.Real.{Sight, Write}
-use Rattle.rules.specs.Rulings.{RulingBy, Ruling, refused, granted, Outcome, outcome_of, ◌or_refuse◌then◌, ◌refuses◌then◌, ◌grants◌, if◌then◌else◌}
+use Rattle.rules.specs.Rulings.{RulingBy, Ruling, refused, granted, Outcome, outcome_of, ◌or_refuse◌then◌, ◌refuses◌then◌, ◌grants◌}
 use Rattle.rules.specs.Memory.{whole_pages, whole_word}
 use Rattle.rules.specs.Tsb.{is_page_index}
 use Rattle.rules.specs.Hits.{is_side, is_context_mark, tsb_hit}

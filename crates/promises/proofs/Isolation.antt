@@ -1,4 +1,5 @@
 -- Promise: isolation (demand 2). No event changes a record or a byte of a guest other than its own.
+use Rattle.std.specs.Prelude.{if◌then◌else◌}
 use mathlib.Core.Path.{◌≡◌, refl, sym, ap, ◌∙◌}
 use mathlib.Core.Bool.{Bool, true, false, false≢true}
 use mathlib.Core.List.{List}
@@ -16,7 +17,7 @@ use Rattle.rules.specs.declared.Tables.{Tables}
 use Rattle.rules.specs.Limits.{guest_limit, extent_limit}
 use Rattle.rules.specs.Kept.{guest_at, plant_at, extents_of, hollow_guest}
 use Rattle.rules.specs.Real.{sight_of}
-use Rattle.rules.specs.Rulings.{refused, outcome_of, if◌then◌else◌}
+use Rattle.rules.specs.Rulings.{refused, outcome_of}
 use Rattle.rules.specs.Tables.{list_right, extents_blank, guest_blank, guest_keeps, keep_rules}
 use Rattle.rules.specs.Host.{HostOutcome, plant_rule, owner_of, long_enough, host_rule, host_event}
 use Rattle.rules.proofs.Scan.{all_at}

@@ -1,4 +1,5 @@
 -- Promise: what is left that keeps a raise from being delivered, now that each source has a target (request No. 7).
+use Rattle.std.specs.Prelude.{if◌then◌else◌}
 use mathlib.Core.Path.{◌≡◌, refl}
 use mathlib.Core.Bool.{Bool, true, false, ◌&&◌}
 use mathlib.Core.List.{List}
@@ -18,7 +19,7 @@ use Rattle.rules.specs.declared.Refusal.{Refusal}
 use Rattle.rules.specs.declared.Refusal.TheVariants.{NoSource}
 use Rattle.rules.specs.declared.Tables.{Tables}
 use Rattle.rules.specs.Kept.{plant_at, cpu_at, queue_at, source_at}
-use Rattle.rules.specs.Rulings.{granted, Outcome, outcome_of, says, ◌grants◌, if◌then◌else◌}
+use Rattle.rules.specs.Rulings.{granted, Outcome, outcome_of, says, ◌grants◌}
 use Rattle.rules.specs.Queues.{index_of, has_room, PutIn, put_in, put}
 use Rattle.rules.specs.Sources.{found, sysino_of, device_entry, raise_at, raise}
 use Rattle.rules.specs.Tables.{keep_rules}

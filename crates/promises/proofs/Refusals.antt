@@ -1,5 +1,6 @@
 -- Promise: a refusal changes nothing, for every input. The paper says otherwise of EWOULDBLOCK, and of EBADALIGN and ENORADDR
 -- where 0x102 answers them, and of no other.
+use Rattle.std.specs.Prelude.{if◌then◌else◌}
 use mathlib.Core.Path.{◌≡◌, refl, ap, ◌∙◌}
 use mathlib.Core.Bool.{Bool, true, false, ◌&&◌, ◌||◌, not}
 use mathlib.Core.List.{List, []}
@@ -25,7 +26,7 @@ use Rattle.rules.specs.Scan.{some_below}
 use Rattle.rules.specs.Kept.{plant_at, cpu_at, queue_at, source_at, extents_of, hollow_guest}
 use Rattle.rules.specs.Real.{Sight, sight_of, bytes_from, apply}
 use Rattle.rules.specs.Statuses.{status_of}
-use Rattle.rules.specs.Rulings.{Ruling, refused, granted, Outcome, outcome_of, ◌or_refuse◌then◌, ◌grants◌, if◌then◌else◌}
+use Rattle.rules.specs.Rulings.{Ruling, refused, granted, Outcome, outcome_of, ◌or_refuse◌then◌, ◌grants◌}
 use Rattle.rules.specs.Versions.{group_of, known, major_of, newest, set_version, get_version}
 use Rattle.rules.specs.Queues.{is_queue, index_of, forward, new_ring, put, ring_of, base_and_size, cpu_qconf, cpu_qinfo, cpu_myid, write_head}
 use Rattle.rules.specs.Mondo.{listed_cpu, listed_cpus, is_caller, is_stranger, send_all, cpu_mondo_send}

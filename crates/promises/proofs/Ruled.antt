@@ -1,9 +1,10 @@
 -- What a ruling comes to, by the way a rule reads.
+use Rattle.std.specs.Prelude.{if◌then◌else◌}
 use mathlib.Core.Path.{◌≡◌, refl}
 use mathlib.Core.Bool.{Bool, true, false}
 use Prim.Native.Nat.{ℕ}
 use Rattle.rules.specs.declared.Found.{Found}
-use Rattle.rules.specs.Rulings.{RulingBy, refused, granted, ◌or_refuse◌then◌, ◌refuses◌then◌, ◌grants◌, if◌then◌else◌}
+use Rattle.rules.specs.Rulings.{RulingBy, refused, granted, ◌or_refuse◌then◌, ◌refuses◌then◌, ◌grants◌}
 
 -- P holds of the status that the ruling refuses by, or Q of what it grants
 abbrev pub Ruled : {R A : Type 0} → (R → Type 0) → (A → Type 0) → RulingBy R A → Type 0

@@ -1,5 +1,6 @@
 -- An entry of a mondo's list that is sent: its ring's tail moves on, the place at the tail reads the data, the entry reads 0xffff, and
 -- nothing else changed.
+use Rattle.std.specs.Prelude.{if◌then◌else◌}
 use mathlib.Core.Path.{◌≡◌, refl, sym, ap, ◌∙◌, subst}
 use mathlib.Core.Bool.{Bool, true, false}
 use mathlib.Core.List.{List, [], ◌∷◌}
@@ -13,7 +14,6 @@ use Rattle.rules.specs.declared.QueueRecord.{QueueRecord}
 use Rattle.rules.specs.declared.Ring.{Ring}
 use Rattle.rules.specs.Kept.{with_tail}
 use Rattle.rules.specs.Real.{Sight, Write, number_of, bytes_from}
-use Rattle.rules.specs.Rulings.{if◌then◌else◌}
 use Rattle.rules.specs.Queues.{next_tail, has_room}
 use Rattle.rules.specs.Mondo.{listed_cpu, listed_cpus, Sent, send_one, send_all}
 use Rattle.records.specs.Sound.{RingSound, RecordSound}

@@ -1,4 +1,5 @@
 -- Promise: after loading each source's target is cpu 0 (request No. 7), and no event changes one but 0xa6 and 0xae.
+use Rattle.std.specs.Prelude.{if◌then◌else◌}
 use mathlib.Core.Path.{◌≡◌, refl, ap, ◌∙◌}
 use mathlib.Core.Bool.{Bool, true, false, ◌&&◌, ◌||◌, not}
 use mathlib.Core.List.{List, [], ◌∷◌}
@@ -20,7 +21,7 @@ use Rattle.rules.specs.declared.Tables.{Tables}
 use Rattle.rules.specs.Scan.{some_below}
 use Rattle.rules.specs.Kept.{blank_source, hollow_guest, plant_at, extents_of, cpu_at, queue_at, source_at, with_versions, with_enabled, with_state, with_cookie, with_source, with_queue, with_ctx0, with_ctxnon0, with_statistics}
 use Rattle.rules.specs.Real.{Sight, sight_of, bytes_from}
-use Rattle.rules.specs.Rulings.{Ruling, refused, granted, Outcome, if◌then◌else◌}
+use Rattle.rules.specs.Rulings.{Ruling, refused, granted, Outcome}
 use Rattle.rules.specs.Versions.{group_of, known, newest, major_of, with_major, disabled, all_disabled, negotiated, set_version, get_version}
 use Rattle.rules.specs.Queues.{is_queue, index_of, new_ring, put, forward, ring_of, cpu_qconf, cpu_qinfo, cpu_myid, write_head}
 use Rattle.rules.specs.Mondo.{listed_cpu, listed_cpus, passed_over, is_caller, is_stranger, Sent, send_one, send_all, cpu_mondo_send}

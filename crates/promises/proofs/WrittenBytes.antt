@@ -1,4 +1,5 @@
 -- What a plant sees after writes, said byte by byte (`over`, `after` of crate memory), is what the machine's words say.
+use Rattle.std.specs.Prelude.{if◌then◌else◌}
 use mathlib.Core.Path.{◌≡◌, refl, ap, ◌∙◌, fun_ext}
 use mathlib.Core.Bool.{Bool, true, false, ◌&&◌, cond}
 use mathlib.Core.List.{List, [], ◌∷◌}
@@ -8,7 +9,6 @@ use lib.Dec.{leb, eqb, ltb}
 use lib.ListN.{length}
 use borrow.Author.Tests.{eqb-true, eqb-false, leb-true, leb-false, le-leb, lt-leb, lt-ltb, le-ltb, eq-eqb, ne_eqb}
 use Rattle.rules.specs.Real.{Sight, Write}
-use Rattle.rules.specs.Rulings.{if◌then◌else◌}
 use Rattle.memory.proofs.Sights.{upd, over, after}
 use Rattle.promises.specs.Machine.{covers, written, all_written}
 

@@ -1,12 +1,12 @@
 -- The machine that has one plant alone. It has no neighbour and no host page.
-use Rattle.std.specs.Prelude.{Bool, ◌&&◌, List, [], ◌∷◌, ℕ, ◌+◌, ◌-◌, leb, ltb, length, get_or}
+use Rattle.std.specs.Prelude.{Bool, ◌&&◌, List, [], ◌∷◌, ℕ, ◌+◌, ◌-◌, leb, ltb, length, get_or, if◌then◌else◌}
 use Rattle.rules.specs.declared.Answer.{Answer}
 use Rattle.rules.specs.declared.Event.{Event}
 use Rattle.rules.specs.declared.Plant.{Plant}
 use Rattle.rules.specs.declared.Tables.{Tables}
 use Rattle.rules.specs.Kept.{plant_at, extents_of}
 use Rattle.rules.specs.Real.{Sight, sight_of, Write}
-use Rattle.rules.specs.Rulings.{Outcome, outcome_of, if◌then◌else◌}
+use Rattle.rules.specs.Rulings.{Outcome, outcome_of}
 use Rattle.rules.specs.Host.{plant_rule}
 use Rattle.promises.specs.Words.{tables_after, memory_after}
 

@@ -1,12 +1,11 @@
 -- The words in which the promises speak of a mondo's list that is sent again.
-use Rattle.std.specs.Prelude.{◌≡◌, List, [], ◌∷◌, ℕ, ◌+◌, ◌-◌, ◌*◌, ◌/◌, ◌%◌, ◌≤◌, ◌<◌, eqb}
+use Rattle.std.specs.Prelude.{◌≡◌, List, [], ◌∷◌, ℕ, ◌+◌, ◌-◌, ◌*◌, ◌/◌, ◌%◌, ◌≤◌, ◌<◌, eqb, if◌then◌else◌}
 use Rattle.rules.specs.declared.Call.{Call}
 use Rattle.rules.specs.declared.Function.{Function}
 use Rattle.rules.specs.declared.Plant.{Plant}
 use Rattle.rules.specs.declared.QueueRecord.{QueueRecord}
 use Rattle.rules.specs.Kept.{cpu_at, queue_at, with_tail}
 use Rattle.rules.specs.Real.{Sight, bytes_from}
-use Rattle.rules.specs.Rulings.{if◌then◌else◌}
 use Rattle.rules.specs.Queues.{index_of, forward}
 use Rattle.rules.specs.Mondo.{listed_cpu, listed_cpus}
 use Rattle.rules.specs.Calls.{function_of}

@@ -1,5 +1,5 @@
 -- The words in which the promises speak of a host, which is its tables and its memory, and of events.
-use Rattle.std.specs.Prelude.{◌≡◌, Bool, true, false, List, [], ◌∷◌, ◌⊎◌, ℕ, ◌+◌, ◌<◌, eqb, length}
+use Rattle.std.specs.Prelude.{◌≡◌, Bool, true, false, List, [], ◌∷◌, ◌⊎◌, ℕ, ◌+◌, ◌<◌, eqb, length, if◌then◌else◌}
 use Rattle.rules.specs.declared.Answer.{Answer}
 use Rattle.rules.specs.declared.Call.{Call}
 use Rattle.rules.specs.declared.CookieCall.{CookieCall}
@@ -18,7 +18,6 @@ use Rattle.rules.specs.declared.SourceCall.{SourceCall}
 use Rattle.rules.specs.declared.Tables.{Tables}
 use Rattle.rules.specs.Kept.{guest_at, plant_at, extent_at, extents_of, cpu_at, queue_at, source_at, with_plant, with_statistics}
 use Rattle.rules.specs.Real.{holds, located}
-use Rattle.rules.specs.Rulings.{if◌then◌else◌}
 use Rattle.rules.specs.Calls.{function_of}
 use Rattle.rules.specs.Queues.{index_of, has_room}
 use Rattle.rules.specs.Sources.{sysino_of}

@@ -1,4 +1,5 @@
 -- The queue calls' rules at each return of the code, from the tests on the way.
+use Rattle.std.specs.Prelude.{if◌then◌else◌}
 use mathlib.Core.Path.{◌≡◌, refl, sym, ◌∙◌}
 use mathlib.Core.Bool.{Bool, true, false}
 use Prim.Native.Nat.{ℕ, ◌-◌, ◌*◌, ◌/◌, ◌≤◌, ◌<◌}
@@ -15,7 +16,7 @@ use Rattle.rules.specs.declared.Refusal.TheVariants.{EINVAL}
 use Rattle.rules.specs.declared.Answer.TheVariants.{Two}
 use Rattle.rules.specs.Limits.{queue_limit}
 use Rattle.rules.specs.Kept.{cpu_at, queue_at, with_queue}
-use Rattle.rules.specs.Rulings.{refused, says, done, ◌grants◌, if◌then◌else◌}
+use Rattle.rules.specs.Rulings.{refused, says, done, ◌grants◌}
 use Rattle.rules.specs.Queues.{is_queue, new_ring, cpu_qconf, cpu_qinfo, write_head}
 use Rattle.rules.proofs.Tests.{and_right}
 use Rattle.records.specs.declared.Verdict.{Verdict}

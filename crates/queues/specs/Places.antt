@@ -1,8 +1,7 @@
 -- Where a queue stands in its cpu's record.
-use Rattle.std.specs.Prelude.{ℕ}
+use Rattle.std.specs.Prelude.{ℕ, if◌then◌else◌}
 use Rattle.rules.specs.declared.Found.{Found}
 use Rattle.rules.specs.Queues.{is_queue, index_of}
-use Rattle.rules.specs.Rulings.{if◌then◌else◌}
 
 -- the place of a queue, where the number is a queue's
 unfoldable pub place_of : ℕ → Found

@@ -1,4 +1,5 @@
 -- The rule of a raise at each return of the code, from the tests on the way.
+use Rattle.std.specs.Prelude.{if◌then◌else◌}
 use mathlib.Core.Path.{◌≡◌, refl, sym, ap, ◌∙◌}
 use mathlib.Core.Bool.{Bool, true, false, not, true≢false}
 use mathlib.Core.List.{List, [], ◌++◌}
@@ -16,7 +17,7 @@ use Rattle.rules.specs.declared.Source.{Source}
 use Rattle.rules.specs.Limits.{source_limit}
 use Rattle.rules.specs.Kept.{cpu_at, queue_at, source_at, with_source, with_state}
 use Rattle.rules.specs.Real.{word_bytes, apply}
-use Rattle.rules.specs.Rulings.{Ruling, granted, Outcome, if◌then◌else◌, says}
+use Rattle.rules.specs.Rulings.{Ruling, granted, Outcome, says}
 use Rattle.rules.specs.Queues.{has_room, put_in, Put, put}
 use Rattle.rules.specs.Sources.{device_word, device_entry, raise_at}
 use Rattle.memory.specs.Ready.{present}

@@ -1,9 +1,8 @@
 -- The steps of a raise that are functions of their own in the code.
-use Rattle.std.specs.Prelude.{◌≡◌, ℕ, eqb}
+use Rattle.std.specs.Prelude.{◌≡◌, ℕ, eqb, if◌then◌else◌}
 use Rattle.rules.specs.declared.Answer.TheVariants.{One}
 use Rattle.rules.specs.declared.Source.{Source}
 use Rattle.rules.specs.Kept.{with_state}
-use Rattle.rules.specs.Rulings.{if◌then◌else◌}
 use Rattle.plants.specs.declared.change.Change.{Change}
 use Rattle.plants.specs.declared.change.Done.{Done}
 use Rattle.plants.specs.Changes.{done_by}

@@ -1,4 +1,5 @@
 -- A fault is told exactly of the lines that are bad.
+use Rattle.std.specs.Prelude.{if◌then◌else◌}
 use mathlib.Core.Bool.{Bool, true, false, ◌&&◌, not, false≢true}
 use mathlib.Core.Path.{◌≡◌, refl, sym, ap₂, subst⁻¹, ◌∙◌}
 use mathlib.Core.List.{List, [], ◌∷◌}
@@ -9,7 +10,6 @@ use native.Mathlib.Omega.{arith}
 use lib.Dec.{leb, eqb}
 use lib.ListN.{length}
 use borrow.Author.Tests.{leb-true, le-leb, eq-eqb, eqb-true}
-use Rattle.rules.specs.Rulings.{if◌then◌else◌}
 use Rattle.rules.specs.declared.Event.{Event}
 use Rattle.rules.specs.Text.{Line, bad, image, event, word_image, call_word, word_head, word_raise, word_load, word_store, word_hit, same, consed, digits, field, fields, paired, paired_or, joined, event_line, event_or, image_or, line_of, pieces, parse, call_of, head_of, device_of, load_of, store_of, hit_of}
 use Rattle.rules.proofs.Tests.{and_left, and_right, bool_same}

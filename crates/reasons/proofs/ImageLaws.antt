@@ -1,4 +1,5 @@
 -- Laws of an image's text, as the loop goes from one byte to the next. odd: a digit waits, whichever it is.
+use Rattle.std.specs.Prelude.{if◌then◌else◌}
 use mathlib.Core.Bool.{Bool, true, false, not}
 use mathlib.Core.Path.{◌≡◌, refl, sym, ◌∙◌}
 use mathlib.Core.List.{List, [], ◌∷◌}
@@ -8,7 +9,6 @@ use native.Mathlib.Numerals.{add-one}
 use lib.ListN.{length, get_or, drop, drop_of_length-le}
 use lib.Seq.{drop-cons}
 use borrow.Author.Tests.{eq-eqb, ne_eqb}
-use Rattle.rules.specs.Rulings.{if◌then◌else◌}
 use Rattle.rules.specs.Text.{space, digit_of, digits, consed, byte_of, paired, paired_or}
 use Rattle.text.specs.Pieces.{unspaced, digit_or}
 use Rattle.text.proofs.NumberLaws.{tells_none, tells_some}

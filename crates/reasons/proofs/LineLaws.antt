@@ -1,4 +1,5 @@
 -- The fault of a line at each return of the code: t is what the code's test came to.
+use Rattle.std.specs.Prelude.{if◌then◌else◌}
 use mathlib.Core.Bool.{Bool, true, false}
 use mathlib.Core.Path.{◌≡◌, refl, sym, ◌∙◌}
 use mathlib.Core.List.{List, [], ◌∷◌}
@@ -9,7 +10,6 @@ use native.Mathlib.Omega.{arith}
 use lib.Dec.{eqb}
 use lib.ListN.{length, take, drop}
 use borrow.Author.Tests.{le-leb, lt-leb, eq-eqb, ne_eqb}
-use Rattle.rules.specs.Rulings.{if◌then◌else◌}
 use Rattle.rules.specs.Text.{word_image, call_word, word_head, word_raise, word_load, word_store, word_hit, same, pieces}
 use Rattle.text.specs.Pieces.{first_length, behind, unspaced}
 use Rattle.text.proofs.PieceLaws.{pieces_split, joined_behind}

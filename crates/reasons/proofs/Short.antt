@@ -1,4 +1,5 @@
 -- A reason has at most 120 bytes, its line feed included.
+use Rattle.std.specs.Prelude.{if◌then◌else◌}
 use mathlib.Core.Bool.{Bool, true, false, ◌&&◌}
 use mathlib.Core.Path.{◌≡◌, refl, sym}
 use mathlib.Core.List.{List, [], ◌∷◌}
@@ -9,7 +10,6 @@ use lib.Dec.{leb, eqb}
 use lib.ListN.{length, take, length-append}
 use lib.Seq.{length-take-le, length-sets}
 use borrow.Author.Tests.{leb-true}
-use Rattle.rules.specs.Rulings.{if◌then◌else◌}
 use Rattle.rules.specs.Text.{bytes_of, word_bad, same, field}
 use Rattle.rules.proofs.Tests.{and_left, and_right}
 use Rattle.reasons.specs.declared.fault.Word.{Word}

@@ -1,8 +1,7 @@
 -- Why a line is bad. "A line prints bad .. if it is too long, has another first word, a field that is no such number, too few or
 -- too many fields, or an odd number of image digits": the first of these that holds, piece by piece as `parse` of the rules goes.
-use Rattle.std.specs.Prelude.{Bool, true, false, List, [], ◌∷◌, ℕ, suc, ◌-◌, leb, eqb, length, get_or}
+use Rattle.std.specs.Prelude.{Bool, true, false, List, [], ◌∷◌, ℕ, suc, ◌-◌, leb, eqb, length, get_or, if◌then◌else◌}
 use Rattle.std.proofs.Math.Option.{Option, none, some}
-use Rattle.rules.specs.Rulings.{if◌then◌else◌}
 use Rattle.rules.specs.Text.{word_image, call_word, word_head, word_raise, word_load, word_store, word_hit, same, pieces, digits, field, paired_or, joined}
 use Rattle.reasons.specs.declared.fault.Word.{Word}
 use Rattle.reasons.specs.declared.fault.Word.TheVariants.{Call, Head, Raise, Load, Store, Hit}

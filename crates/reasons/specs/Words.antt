@@ -1,8 +1,7 @@
 -- What an answer means, in words: a line of text for every status, and for every fault of a bad line.
-use Rattle.std.specs.Prelude.{List, [], ◌∷◌, ◌++◌, ℕ, zero, suc, ◌+◌, ◌-◌, ◌/◌, ◌%◌, ltb, eqb, length, take}
+use Rattle.std.specs.Prelude.{List, [], ◌∷◌, ◌++◌, ℕ, zero, suc, ◌+◌, ◌-◌, ◌/◌, ◌%◌, ltb, eqb, length, take, if◌then◌else◌}
 use Rattle.std.proofs.Math.Option.{Option, none, some}
 use Prim.Native.String.{String}
-use Rattle.rules.specs.Rulings.{if◌then◌else◌}
 use Rattle.rules.specs.Text.{bytes_of, line_feed, word_bad, same, field}
 use Rattle.text.specs.Pieces.{first_length}
 use Rattle.reasons.specs.declared.fault.Word.{Word}

@@ -1,5 +1,6 @@
 -- Tables that keep the rules are written as an image that is accepted, and that gives them as after loading: each row that is written
 -- stands in the bytes where the reader looks for it.
+use Rattle.std.specs.Prelude.{if◌then◌else◌}
 use mathlib.Core.Path.{◌≡◌, refl, sym, ap, ◌∙◌}
 use mathlib.Core.Bool.{Bool, true, false}
 use mathlib.Core.Logic.{⊎_elim}
@@ -25,7 +26,7 @@ use Rattle.rules.specs.Limits.{guest_limit, cpu_limit, extent_limit, source_limi
 use Rattle.rules.specs.Scan.{each_below}
 use Rattle.rules.specs.Kept.{blank_extent, blank_cpu, blank_source, blank_guest, hollow_guest, no_versions, guest_at, extent_at, source_at}
 use Rattle.rules.specs.Bits.{field_at, bits_of}
-use Rattle.rules.specs.Rulings.{granted, if◌then◌else◌}
+use Rattle.rules.specs.Rulings.{granted}
 use Rattle.rules.specs.Widths.{edition_width, guests_width, header_bits, cpus_width, extents_width, sources_width, counts_bits}
 use Rattle.rules.specs.Widths.{real_page_width, page_count_width, host_page_width, extent_bits, devhandle_width, devino_width, cookie_support_width, source_bits}
 use Rattle.rules.specs.Image.{◌bits_at◌of◌from◌to◌else◌, read_extent, read_source, filled, read_lists, read_guest, behind, read_guests, read_header, read_fields, extent_right, filled_out, judged, read_image, load}

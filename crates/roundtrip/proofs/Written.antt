@@ -1,4 +1,5 @@
 -- An accepted image is written again as the same bytes: each row that is written is the row of bits that was read.
+use Rattle.std.specs.Prelude.{if◌then◌else◌}
 use mathlib.Core.Path.{◌≡◌, refl, sym, ap, ◌∙◌}
 use mathlib.Core.Bool.{Bool, true, false}
 use mathlib.Core.List.{List, ◌++◌, append_assoc, append-nil}
@@ -16,7 +17,7 @@ use Rattle.rules.specs.Limits.{guest_limit, cpu_limit, extent_limit, source_limi
 use Rattle.rules.specs.Scan.{each_below}
 use Rattle.rules.specs.Kept.{blank_extent, blank_cpu, blank_source, blank_guest, hollow_guest, no_versions}
 use Rattle.rules.specs.Bits.{field_at, reaches, bits_of}
-use Rattle.rules.specs.Rulings.{granted, if◌then◌else◌}
+use Rattle.rules.specs.Rulings.{granted}
 use Rattle.rules.specs.Widths.{edition_width, guests_width, header_bits, cpus_width, extents_width, sources_width, counts_bits}
 use Rattle.rules.specs.Widths.{real_page_width, page_count_width, host_page_width, extent_bits, devhandle_width, devino_width, cookie_support_width, source_bits}
 use Rattle.rules.specs.Image.{read_extent, read_source, filled, read_lists, read_guest, behind, Partition, read_guests, read_header, Fields, read_fields, filled_out, read_image}

@@ -1,4 +1,5 @@
 -- Sentences of the paper that no definition says by itself: a range that passes 2^64 is not valid, and a ring of n entries holds n-1.
+use Rattle.std.specs.Prelude.{if◌then◌else◌}
 use mathlib.Core.Path.{◌≡◌, refl, sym, ◌∙◌}
 use mathlib.Core.Bool.{Bool, true, false, not, cond}
 use mathlib.Core.List.{List, [], ◌∷◌}
@@ -17,7 +18,6 @@ use Rattle.rules.specs.Real.{high, holds, reach, valid}
 use Rattle.rules.specs.Scan.{all_below}
 use Rattle.rules.specs.Image.{extent_right, ascend}
 use Rattle.rules.specs.Queues.{next_tail, has_room, forward}
-use Rattle.rules.specs.Rulings.{if◌then◌else◌}
 use Rattle.rules.specs.Tables.{list_right, extent_blank, extents_keep, guest_keeps, guest_blank, keep_rules}
 use Rattle.rules.proofs.Scan.{all_at, all_of}
 use Rattle.rules.proofs.Tests.{and_left, and_right}

@@ -1,8 +1,8 @@
 -- "Which calls exist": the function number picks the group before any argument is read.
-use Rattle.std.specs.Prelude.{ℕ, leb, eqb}
+use Rattle.std.specs.Prelude.{ℕ, leb, eqb, if◌then◌else◌}
 use Rattle.rules.specs.Types.{SourceCall, CookieCall, Function, Versions, Plant, Call, EBADTRAP, ENOTSUPPORTED}
 use Rattle.rules.specs.Real.{Sight}
-use Rattle.rules.specs.Rulings.{Ruling, refused, granted, Outcome, ◌or_refuse◌then◌, ◌grants◌, if◌then◌else◌}
+use Rattle.rules.specs.Rulings.{Ruling, refused, granted, Outcome, ◌or_refuse◌then◌, ◌grants◌}
 use Rattle.rules.specs.Versions.{set_version, get_version}
 use Rattle.rules.specs.Queues.{cpu_qconf, cpu_qinfo, cpu_myid}
 use Rattle.rules.specs.Mondo.{cpu_mondo_send}

@@ -1,10 +1,10 @@
 -- By request No. 9, the event for a TSB hit on a guest's cpu: it fills the buffer that 0x102 takes (003, section 2.3).
-use Rattle.std.specs.Prelude.{Bool, [], ◌∷◌, ℕ, ◌+◌, ◌*◌, ◌%◌, ◌^◌, leb, eqb}
+use Rattle.std.specs.Prelude.{Bool, [], ◌∷◌, ℕ, ◌+◌, ◌*◌, ◌%◌, ◌^◌, leb, eqb, if◌then◌else◌}
 use Rattle.rules.specs.Types.{Plant, Done, EINVAL}
 use Rattle.rules.specs.Kept.{cpu_at}
 use Rattle.rules.specs.Real.{Sight, number_of, word_bytes, Write}
 use Rattle.rules.specs.Tsb.{is_page_index}
-use Rattle.rules.specs.Rulings.{Ruling, granted, Outcome, ◌or_refuse◌then◌, if◌then◌else◌, done}
+use Rattle.rules.specs.Rulings.{Ruling, granted, Outcome, ◌or_refuse◌then◌, done}
 
 -- "instruction or data side": 0 or 1
 abbrev pub is_side : ℕ → Bool

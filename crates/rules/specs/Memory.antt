@@ -1,10 +1,10 @@
 -- "TSB lists and memory", its second half: scrub, sync, store and load (000, section 9), and the statistics address (003).
-use Rattle.std.specs.Prelude.{Bool, ◌&&◌, not, [], ◌∷◌, ℕ, ◌%◌, min, eqb, replicate}
+use Rattle.std.specs.Prelude.{Bool, ◌&&◌, not, [], ◌∷◌, ℕ, ◌%◌, min, eqb, replicate, if◌then◌else◌}
 use Rattle.rules.specs.Types.{Plant, Done, One, Refused, EINVAL, EBADALIGN, ENORADDR}
 use Rattle.rules.specs.Limits.{page_size}
 use Rattle.rules.specs.Kept.{cpu_at, with_statistics}
 use Rattle.rules.specs.Real.{Sight, number_of, word_bytes}
-use Rattle.rules.specs.Rulings.{Ruling, refused, granted, Outcome, ◌or_refuse◌then◌, if◌then◌else◌, says}
+use Rattle.rules.specs.Rulings.{Ruling, refused, granted, Outcome, ◌or_refuse◌then◌, says}
 
 -- the whole range, for 0x31 and 0x32 (address, length): "length 0 EINVAL; either not on 8,192 EBADALIGN; whole range not
 -- valid ENORADDR"

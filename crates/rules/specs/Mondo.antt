@@ -1,9 +1,9 @@
 -- "Queues and mondos": 0x42, a mondo to each cpu of a list (000, section 7.2.8).
-use Rattle.std.specs.Prelude.{Bool, true, ◌&&◌, not, List, [], ◌∷◌, ◌++◌, ℕ, zero, suc, ◌+◌, ◌*◌, ◌%◌, leb, eqb}
+use Rattle.std.specs.Prelude.{Bool, true, ◌&&◌, not, List, [], ◌∷◌, ◌++◌, ℕ, zero, suc, ◌+◌, ◌*◌, ◌%◌, leb, eqb, if◌then◌else◌}
 use Rattle.rules.specs.Types.{Plant, Done, Refused, EINVAL, EBADALIGN, ENORADDR, ENOCPU, EWOULDBLOCK}
 use Rattle.rules.specs.Scan.{some_below, ◌is_from◌to◌}
 use Rattle.rules.specs.Real.{Sight, Write, number_of, bytes_from}
-use Rattle.rules.specs.Rulings.{Ruling, granted, Outcome, ◌or_refuse◌then◌, if◌then◌else◌}
+use Rattle.rules.specs.Rulings.{Ruling, granted, Outcome, ◌or_refuse◌then◌}
 use Rattle.rules.specs.Queues.{Put, put}
 
 -- cpu i of a list of cpus, and its first k: 2 bytes each

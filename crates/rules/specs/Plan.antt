@@ -1,5 +1,5 @@
 -- The program `plan` (request No. 2): its input is a plan, as lines, or one image line as in a session, and it prints the other form.
-use Rattle.std.specs.Prelude.{Bool, ◌&&◌, List, [], ◌∷◌, ◌++◌, ℕ, suc, ◌+◌, ◌-◌, ◌/◌, ◌%◌, ◌^◌, leb, ltb, eqb, length, get_or, set, replicate}
+use Rattle.std.specs.Prelude.{Bool, ◌&&◌, List, [], ◌∷◌, ◌++◌, ℕ, suc, ◌+◌, ◌-◌, ◌/◌, ◌%◌, ◌^◌, leb, ltb, eqb, length, get_or, set, replicate, if◌then◌else◌}
 use Rattle.std.proofs.Math.Option.{Option, none, some}
 use Rattle.rules.specs.Types.{Extent, Extents, Source, Plant, Guest, Tables, Loading, Loaded, WriteRefusal, PlanLine, Stage, Desk}
 use Rattle.rules.specs.Limits.{guest_limit, cpu_limit, extent_limit, source_limit}
@@ -7,7 +7,7 @@ use Rattle.rules.specs.Scan.{each_below, ◌is_from◌to◌}
 use Rattle.rules.specs.Kept.{blank_extent, blank_cpu, blank_source, no_versions, no_guests, guest_at, extent_at, source_at}
 use Rattle.rules.specs.Image.{load}
 use Rattle.rules.specs.Statuses.{loading_numbers, write_status}
-use Rattle.rules.specs.Rulings.{RulingBy, refused, granted, if◌then◌else◌}
+use Rattle.rules.specs.Rulings.{RulingBy, refused, granted}
 use Rattle.rules.specs.Text.{bytes_of, space, line_feed, word_image, word_bad, same, pieces, fields, Line, bad, image, event, parse, digit_byte, spaced}
 use Rattle.rules.specs.Session.{lines_from}
 use Rattle.rules.specs.Writing.{write_rule}

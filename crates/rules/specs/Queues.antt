@@ -1,10 +1,10 @@
 -- "Queues and mondos": 0x14, 0x15, 0x16, an entry put into a ring, and the head write (000, sections 7.2.6, 7.2.7 and 7.2.9).
-use Rattle.std.specs.Prelude.{Bool, true, false, ◌&&◌, not, List, [], ◌∷◌, ℕ, ◌+◌, ◌-◌, ◌*◌, ◌/◌, ◌%◌, leb, ltb, eqb}
+use Rattle.std.specs.Prelude.{Bool, true, false, ◌&&◌, not, List, [], ◌∷◌, ℕ, ◌+◌, ◌-◌, ◌*◌, ◌/◌, ◌%◌, leb, ltb, eqb, if◌then◌else◌}
 use Rattle.rules.specs.Types.{Ring, QueueRecord, Plant, Answer, One, Two, EINVAL, EBADALIGN, ENORADDR}
 use Rattle.rules.specs.Kept.{cpu_at, queue_at, with_queue, with_head, with_tail}
 use Rattle.rules.specs.Scan.{◌is_from◌to◌, power_of_two◌from◌to◌}
 use Rattle.rules.specs.Real.{Write}
-use Rattle.rules.specs.Rulings.{Ruling, refused, granted, Outcome, ◌or_refuse◌then◌, ◌grants◌, if◌then◌else◌, says, done}
+use Rattle.rules.specs.Rulings.{Ruling, refused, granted, Outcome, ◌or_refuse◌then◌, ◌grants◌, says, done}
 
 -- "queue not 0x3c to 0x3f": the cpu's four records, in that order
 abbrev pub is_queue : ℕ → Bool

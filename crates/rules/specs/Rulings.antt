@@ -39,12 +39,6 @@ abbrev pub ◌grants◌ : {R A B : Type 0} → RulingBy R A → (A → RulingBy 
 ◌grants◌ (refused r) rest = refused r
 ◌grants◌ (granted a) rest = rest a
 
--- if TEST then THIS else THAT
-infixr 5 if◌then◌else◌
-abbrev pub if◌then◌else◌ : {A : Type 0} → Bool → A → A → A
-if◌then◌else◌ true this that = this
-if◌then◌else◌ false this that = that
-
 -- the rule refuses nothing
 abbrev pub accepts : {R A : Type 0} → RulingBy R A → Bool
 accepts (refused r) = false

@@ -1,11 +1,10 @@
 -- "The session program", line by line and for a whole input.
-use Rattle.std.specs.Prelude.{List, [], ◌∷◌, ◌++◌, ℕ, eqb, replicate}
+use Rattle.std.specs.Prelude.{List, [], ◌∷◌, ◌++◌, ℕ, eqb, replicate, if◌then◌else◌}
 use Rattle.rules.specs.Types.{Tables, Loaded, Reply}
 use Rattle.rules.specs.Kept.{no_guests}
 use Rattle.rules.specs.Statuses.{numbers, loading_numbers}
 use Rattle.rules.specs.Image.{load}
 use Rattle.rules.specs.Host.{HostOutcome, host_event}
-use Rattle.rules.specs.Rulings.{if◌then◌else◌}
 use Rattle.rules.specs.Text.{Line, bad, image, event, parse, spaced, word_bad, line_feed}
 
 -- what a session holds: it "starts with no guest and 32 KiB of zeroed memory"

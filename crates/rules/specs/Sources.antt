@@ -1,11 +1,11 @@
 -- "Interrupt sources": 0xa0 to 0xae (000, section 10; 002, section 3) and raise.
-use Rattle.std.specs.Prelude.{Bool, ◌&&◌, ◌||◌, not, List, ◌++◌, ℕ, leb, ltb, eqb, replicate}
+use Rattle.std.specs.Prelude.{Bool, ◌&&◌, ◌||◌, not, List, ◌++◌, ℕ, leb, ltb, eqb, replicate, if◌then◌else◌}
 use Rattle.rules.specs.Types.{Found, Source, Plant, SourceCall, CookieCall, One, Refusal, EINVAL, ENOCPU, ENOTSUPPORTED, NoSource}
 use Rattle.rules.specs.Scan.{first_below}
 use Rattle.rules.specs.Kept.{source_at, with_source, with_enabled, with_state, with_target, with_cookie}
 use Rattle.rules.specs.Real.{word_bytes}
 use Rattle.rules.specs.Image.{named}
-use Rattle.rules.specs.Rulings.{Ruling, refused, granted, Outcome, ◌or_refuse◌then◌, ◌grants◌, if◌then◌else◌, says, done}
+use Rattle.rules.specs.Rulings.{Ruling, refused, granted, Outcome, ◌or_refuse◌then◌, ◌grants◌, says, done}
 use Rattle.rules.specs.Queues.{Put, put}
 
 -- "Sysino is the position in the guest's own list."

@@ -1,5 +1,5 @@
 -- "Tables must hold": the rule on tables (101), as a test.
-use Rattle.std.specs.Prelude.{Bool, true, false, ◌&&◌, ◌||◌, not, ℕ, ◌/◌, ◌%◌, leb, ltb, eqb}
+use Rattle.std.specs.Prelude.{Bool, true, false, ◌&&◌, ◌||◌, not, ℕ, ◌/◌, ◌%◌, leb, ltb, eqb, if◌then◌else◌}
 use Rattle.rules.specs.Types.{Group, Extent, Extents, Ring, QueueRecord, Tsb, Tsbs, Cpu, Source, Versions, Plant, Guest, Tables}
 use Rattle.rules.specs.Limits.{guest_limit, cpu_limit, extent_limit, source_limit, queue_limit, tsb_limit, devhandles, devinos}
 use Rattle.rules.specs.Scan.{all_below}
@@ -11,7 +11,7 @@ use Rattle.rules.specs.Queues.{new_ring}
 use Rattle.rules.specs.Tsb.{judged_tsb}
 use Rattle.rules.specs.Memory.{new_statistics}
 use Rattle.rules.specs.Sources.{enabled_value, state_value, cookie_value}
-use Rattle.rules.specs.Rulings.{accepts, if◌then◌else◌}
+use Rattle.rules.specs.Rulings.{accepts}
 
 -- a list of at most `limit` places, the first `count` of them right and the others blank
 unfoldable pub list_right : ℕ → ℕ → (ℕ → Bool) → (ℕ → Bool) → Bool

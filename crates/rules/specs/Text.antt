@@ -1,12 +1,11 @@
 -- "The session program": the text of a line, as bytes. Fields in, numbers out.
-use Rattle.std.specs.Prelude.{Bool, true, false, ◌&&◌, List, [], ◌∷◌, ◌++◌, ℕ, zero, suc, ◌+◌, ◌-◌, ◌*◌, ◌/◌, ◌%◌, leb, ltb, eqb, length, get_or}
+use Rattle.std.specs.Prelude.{Bool, true, false, ◌&&◌, List, [], ◌∷◌, ◌++◌, ℕ, zero, suc, ◌+◌, ◌-◌, ◌*◌, ◌/◌, ◌%◌, leb, ltb, eqb, length, get_or, if◌then◌else◌}
 use Rattle.std.proofs.Math.Option.{Option, none, some}
 use Prim.Native.Char.{code}
 use Prim.Native.String.{String}
 use Prim.Native.String as string
 use Rattle.rules.specs.Types.{Call, HeadWrite, Device, LoadAt, StoreAt, TsbHit, Event}
 use Rattle.rules.specs.Scan.{◌is_from◌to◌}
-use Rattle.rules.specs.Rulings.{if◌then◌else◌}
 
 -- the bytes of a text, which has no character past 127
 abbrev pub bytes_of : String → List ℕ

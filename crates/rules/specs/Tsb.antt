@@ -1,11 +1,11 @@
 -- "TSB lists": 0x20 and 0x21 (000, sections 8.2, 8.5.1 and 8.5.2).
-use Rattle.std.specs.Prelude.{Bool, ◌&&◌, ◌||◌, not, List, ℕ, zero, suc, ◌+◌, ◌*◌, ◌/◌, ◌%◌, ◌^◌, leb, eqb, set, replicate}
+use Rattle.std.specs.Prelude.{Bool, ◌&&◌, ◌||◌, not, List, ℕ, zero, suc, ◌+◌, ◌*◌, ◌/◌, ◌%◌, ◌^◌, leb, eqb, set, replicate, if◌then◌else◌}
 use Rattle.rules.specs.Types.{Tsb, Tsbs, Plant, EINVAL, EBADALIGN, ENORADDR, EBADPGSZ, EBADTSB}
 use Rattle.rules.specs.Limits.{tsb_limit}
 use Rattle.rules.specs.Scan.{all_below, power_of_two◌from◌to◌}
 use Rattle.rules.specs.Kept.{blank_tsb, blank_tsbs, with_ctx0, with_ctxnon0}
 use Rattle.rules.specs.Real.{Sight, number_of}
-use Rattle.rules.specs.Rulings.{Ruling, granted, Outcome, ◌or_refuse◌then◌, ◌grants◌, if◌then◌else◌, done}
+use Rattle.rules.specs.Rulings.{Ruling, granted, Outcome, ◌or_refuse◌then◌, ◌grants◌, done}
 
 -- "Descriptor, at byte 0 page index (16 bits), 2 associativity (16), 4 entries (32), 8 context index (32), 12 page mask (32),
 -- 16 base (64), 24 reserved, not kept."

@@ -1,9 +1,9 @@
 -- "Which calls exist", its second half: set version and get version.
-use Rattle.std.specs.Prelude.{Bool, true, false, ◌&&◌, map, ℕ, leb, ltb, eqb}
+use Rattle.std.specs.Prelude.{Bool, true, false, ◌&&◌, map, ℕ, leb, ltb, eqb, if◌then◌else◌}
 use Rattle.rules.specs.Types.{Group, Source, Versions, Plant, One, Two, EINVAL, ENOTSUPPORTED}
 use Rattle.rules.specs.Scan.{◌is_from◌to◌}
 use Rattle.rules.specs.Kept.{with_versions, with_sources, with_enabled}
-use Rattle.rules.specs.Rulings.{Ruling, Outcome, ◌or_refuse◌then◌, if◌then◌else◌, says}
+use Rattle.rules.specs.Rulings.{Ruling, Outcome, ◌or_refuse◌then◌, says}
 
 -- groups 0, 1, 2 and 0x200
 unfoldable pub group_of : ℕ → Group

@@ -1,6 +1,6 @@
 -- Writing partition images (request No. 2): "from tables to an image, into a lent buffer, with the length". In the order of "The partition
 -- image", and with the widths that its reader has.
-use Rattle.std.specs.Prelude.{List, ◌++◌, ℕ, leb, length, drop}
+use Rattle.std.specs.Prelude.{List, ◌++◌, ℕ, leb, length, drop, if◌then◌else◌}
 use Rattle.rules.specs.Types.{Extent, Source, Guest, Tables, WriteRefusal, Writing}
 use Rattle.rules.specs.Scan.{each_below}
 use Rattle.rules.specs.Kept.{guest_at, extent_at, source_at}
@@ -8,7 +8,7 @@ use Rattle.rules.specs.Bits.{bits_of, packed}
 use Rattle.rules.specs.Widths.{edition_width, guests_width, cpus_width, extents_width, sources_width}
 use Rattle.rules.specs.Widths.{real_page_width, page_count_width, host_page_width, devhandle_width, devino_width, cookie_support_width}
 use Rattle.rules.specs.Tables.{keep_rules}
-use Rattle.rules.specs.Rulings.{RulingBy, refused, granted, ◌or_refuse◌then◌, if◌then◌else◌}
+use Rattle.rules.specs.Rulings.{RulingBy, refused, granted, ◌or_refuse◌then◌}
 
 -- an extent: "real page 28 bits, page count 16, host page 16"
 unfoldable pub extent_row : Extent → List ℕ

@@ -1,4 +1,5 @@
 -- The answers to what is taken of a piece have room in the buffer.
+use Rattle.std.specs.Prelude.{if◌then◌else◌}
 use mathlib.Core.Path.{◌≡◌, refl, sym, ap}
 use mathlib.Core.Bool.{Bool, true, false}
 use mathlib.Core.List.{List, [], ◌∷◌, ◌++◌}
@@ -12,7 +13,6 @@ use Rattle.rules.specs.declared.Answer.{Answer}
 use Rattle.rules.specs.declared.Loading.{Loading}
 use Rattle.rules.specs.Image.{load}
 use Rattle.rules.specs.Host.{host_event}
-use Rattle.rules.specs.Rulings.{if◌then◌else◌}
 use Rattle.rules.specs.Statuses.{numbers, loading_numbers}
 use Rattle.rules.specs.Text.{Line, bad, image, event, parse, line_feed, spaced}
 use Rattle.rules.specs.Session.{Session, replied, text_of, answered}

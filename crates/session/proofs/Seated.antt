@@ -1,4 +1,5 @@
 -- The guest whose plant `feed` holds apart from its tables. What counts are the tables with that plant put back.
+use Rattle.std.specs.Prelude.{if◌then◌else◌}
 use mathlib.Core.Path.{◌≡◌, refl, sym, ap, ◌∙◌, subst}
 use mathlib.Core.Bool.{Bool, true, false}
 use mathlib.Core.List.{List}
@@ -19,7 +20,6 @@ use Rattle.rules.specs.Kept.{hollow_guest, guest_at, plant_at, extents_of, with_
 use Rattle.memory.specs.Ready.{present}
 use Rattle.rules.specs.Real.{sight_of}
 use Rattle.rules.specs.Host.{owner_of, plant_rule}
-use Rattle.rules.specs.Rulings.{if◌then◌else◌}
 use Rattle.rules.specs.Text.{Line, bad, image, event, parse}
 use Rattle.rules.specs.Session.{text_of, answered}
 use Rattle.records.specs.declared.Verdict.{Verdict}

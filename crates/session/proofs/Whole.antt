@@ -1,4 +1,5 @@
 -- Promise: input in pieces of any size prints what the whole input prints.
+use Rattle.std.specs.Prelude.{if◌then◌else◌}
 use mathlib.Core.Path.{◌≡◌, refl, sym, ap, ◌∙◌}
 use mathlib.Core.Bool.{Bool, true, false}
 use mathlib.Core.List.{List, [], ◌∷◌, ◌++◌, append_assoc, append-nil}
@@ -8,7 +9,6 @@ use lib.Dec.{eqb, ltb, leb}
 use lib.ListN.{length, replicate, take, length-append, length-set, length-replicate}
 use lib.Seq.{take_all, take-suc-set, take-append-le, length-take-le}
 use borrow.Author.Tests.{leb-true, leb-false, ltb-true, ltb-false, lt-leb}
-use Rattle.rules.specs.Rulings.{if◌then◌else◌}
 use Rattle.rules.specs.Text.{parse, line_feed}
 use Rattle.rules.specs.Session.{Printed, begin, answered, lines_from, printed, output}
 use Rattle.session.specs.declared.feeder.Feeder.{Feeder}

@@ -1,8 +1,7 @@
 -- Input in pieces: what a piece gives, and what is kept for the next one.
-use Rattle.std.specs.Prelude.{◌≡◌, List, [], ◌∷◌, ◌++◌, ℕ, zero, suc, ◌+◌, min, eqb, leb, ltb, length, replicate, set, take}
+use Rattle.std.specs.Prelude.{◌≡◌, List, [], ◌∷◌, ◌++◌, ℕ, zero, suc, ◌+◌, min, eqb, leb, ltb, length, replicate, set, take, if◌then◌else◌}
 use Rattle.std.proofs.lemmas.List.Edits.{sets}
 use Rattle.rules.specs.Kept.{no_guests}
-use Rattle.rules.specs.Rulings.{if◌then◌else◌}
 use Rattle.rules.specs.Text.{parse, line_feed}
 use Rattle.rules.specs.Session.{Session, Printed, answered}
 use Rattle.session.specs.declared.feeder.Fed.{Fed}

@@ -1,5 +1,5 @@
 -- The parts of the rules on tables that go through one list, and what they ask at one place.
-use Rattle.std.specs.Prelude.{Bool, ◌&&◌, List, ℕ, ◌+◌, ◌*◌, leb, ltb, get_or}
+use Rattle.std.specs.Prelude.{Bool, ◌&&◌, List, ℕ, ◌+◌, ◌*◌, leb, ltb, get_or, if◌then◌else◌}
 use Rattle.rules.specs.declared.Extent.{Extent}
 use Rattle.rules.specs.declared.Extents.{Extents}
 use Rattle.rules.specs.declared.Queue.{Queue}
@@ -9,7 +9,7 @@ use Rattle.rules.specs.declared.Guest.{Guest}
 use Rattle.rules.specs.declared.Tsb.{Tsb}
 use Rattle.rules.specs.Limits.{guest_limit, cpu_limit, extent_limit, source_limit, queue_limit, page_size}
 use Rattle.rules.specs.Scan.{all_below}
-use Rattle.rules.specs.Rulings.{if◌then◌else◌, accepts}
+use Rattle.rules.specs.Rulings.{accepts}
 use Rattle.rules.specs.Kept.{blank_queue, hollow_cpu, hollow_guest, blank_source, extent_at}
 use Rattle.rules.specs.Image.{extent_right}
 use Rattle.rules.specs.Tables.{extent_blank, record_blank, tsb_blank, cpu_blank, source_blank, record_right, cpu_right, guest_keeps, guest_blank}

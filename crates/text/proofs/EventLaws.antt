@@ -1,4 +1,5 @@
 -- The line at each return of the event's code, from the tests on the way: t is what the code's test of a word came to.
+use Rattle.std.specs.Prelude.{if◌then◌else◌}
 use mathlib.Core.Bool.{Bool, true, false, ◌&&◌}
 use mathlib.Core.Path.{◌≡◌, sym, ◌∙◌}
 use mathlib.Core.List.{List}
@@ -15,7 +16,6 @@ use Rattle.rules.specs.declared.StoreAt.{StoreAt}
 use Rattle.rules.specs.declared.TsbHit.{TsbHit}
 use Rattle.rules.specs.declared.Event.{Event}
 use Rattle.rules.specs.Scan.{◌is_from◌to◌}
-use Rattle.rules.specs.Rulings.{if◌then◌else◌}
 use Rattle.rules.specs.Text.{Line, bad, event, call_word, word_head, word_raise, word_load, word_store, word_hit, same, call_of, head_of, device_of, load_of, store_of, hit_of, event_line}
 use Rattle.text.specs.declared.line.Line.{Line as Told}
 use Rattle.text.specs.Gathered.{ZeroFrom}

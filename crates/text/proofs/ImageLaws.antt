@@ -1,4 +1,5 @@
 -- Laws of an image's text. Of what is read so far, `done` are the whole bytes, and high is the digit that waits: 16 where none does.
+use Rattle.std.specs.Prelude.{if◌then◌else◌}
 use mathlib.Core.Bool.{Bool, true, false}
 use mathlib.Core.Path.{◌≡◌, refl, sym, ◌∙◌}
 use mathlib.Core.List.{List, [], ◌∷◌, ◌++◌, append_assoc, append-nil}
@@ -11,7 +12,6 @@ use lib.Dec.{eqb}
 use lib.ListN.{length, get_or, drop, set, drop_of_length-le, length-append}
 use lib.Seq.{sets, drop-cons}
 use borrow.Author.Tests.{eq-eqb, ne_eqb}
-use Rattle.rules.specs.Rulings.{if◌then◌else◌}
 use Rattle.rules.specs.Text.{space, digit_of, digits, consed, byte_of, paired, paired_or}
 use Rattle.text.specs.declared.digits.Size.{Size}
 use Rattle.text.specs.declared.digits.Size.TheVariants.{Bad, Bytes}

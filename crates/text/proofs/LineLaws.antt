@@ -1,4 +1,5 @@
 -- The line at each return of the code, and the bytes of an image.
+use Rattle.std.specs.Prelude.{if◌then◌else◌}
 use mathlib.Core.Bool.{Bool, true, false, not, false≢true}
 use mathlib.Core.Path.{◌≡◌, refl, sym, ap, ◌∙◌}
 use mathlib.Core.List.{List, []}
@@ -10,7 +11,6 @@ use lib.Dec.{leb}
 use lib.ListN.{length, take, drop}
 use lib.Seq.{sets}
 use borrow.Author.Tests.{leb-true, le-leb, lt-leb, not-true, not-false}
-use Rattle.rules.specs.Rulings.{if◌then◌else◌}
 use Rattle.rules.specs.Text.{Line, bad, image, event, word_image, same, fields, image_or, event_or, line_of, pieces, parse}
 use Rattle.text.specs.declared.line.Line.{Line as Told}
 use Rattle.text.specs.declared.digits.Size.{Size}

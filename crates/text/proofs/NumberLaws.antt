@@ -1,4 +1,5 @@
 -- Laws of digits and of the number that they make.
+use Rattle.std.specs.Prelude.{if◌then◌else◌}
 use mathlib.Core.Bool.{Bool, true, false, ◌&&◌}
 use mathlib.Core.Path.{◌≡◌, refl, sym, ap, ◌∙◌}
 use mathlib.Core.List.{List}
@@ -11,7 +12,6 @@ use lib.Dec.{leb}
 use lib.ListN.{length, get_or, drop, drop_of_length-le}
 use lib.Seq.{drop-cons}
 use borrow.Author.Tests.{leb-true, le-leb, lt-leb}
-use Rattle.rules.specs.Rulings.{if◌then◌else◌}
 use Rattle.rules.specs.Text.{digit_of, digits, consed, value_of, numbered, field}
 use Rattle.rules.proofs.Tests.{and_left, and_right}
 use Rattle.text.specs.declared.number.Number.TheVariants.{Bad, Is}

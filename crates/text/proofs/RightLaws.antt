@@ -1,4 +1,5 @@
 -- From the fields that the code read to the event that they make.
+use Rattle.std.specs.Prelude.{if◌then◌else◌}
 use mathlib.Core.Bool.{Bool, true, false, not, and-false, true≢false, false≢true}
 use mathlib.Core.Path.{◌≡◌, refl, sym, ap, ◌∙◌}
 use mathlib.Core.List.{List, ◌++◌}
@@ -9,7 +10,6 @@ use lib.Dec.{leb}
 use lib.ListN.{length, get_or, take, drop, replicate, length-append}
 use lib.Seq.{take-append_seam, get_or-append-add, get_or-drop}
 use borrow.Author.Tests.{leb-false, lt-leb, ne_eqb}
-use Rattle.rules.specs.Rulings.{if◌then◌else◌}
 use Rattle.rules.specs.Text.{bad, event_or, event_line}
 use Rattle.text.specs.declared.line.Line.{Line as Told}
 use Rattle.text.specs.declared.fields.Fields.{Fields}

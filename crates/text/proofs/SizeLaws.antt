@@ -1,4 +1,5 @@
 -- How much a line can say: an image of at most 1,024 bytes.
+use Rattle.std.specs.Prelude.{if◌then◌else◌}
 use mathlib.Core.Bool.{Bool, true, false}
 use mathlib.Core.Path.{◌≡◌, refl}
 use mathlib.Core.List.{List, [], ◌∷◌}
@@ -8,7 +9,6 @@ use native.Mathlib.Omega.{arith}
 use lib.Dec.{leb, eqb}
 use lib.ListN.{length, take, drop}
 use borrow.Author.Tests.{leb-true}
-use Rattle.rules.specs.Rulings.{if◌then◌else◌}
 use Rattle.rules.specs.Text.{bad, space, word_image, same, digit_of, consed, digits, byte_of, paired, paired_or, fields, image_or, event_or, event_line, line_of, pieces, parse}
 use Rattle.text.specs.Pieces.{first_length, behind, unspaced}
 use Rattle.text.specs.Lines.{image_of}

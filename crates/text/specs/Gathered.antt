@@ -1,7 +1,6 @@
 -- The numbers of an event, as the code holds them: in an array of nine, with zeros behind them.
-use Rattle.std.specs.Prelude.{true, false, ◌≡◌, ℕ, ◌≤◌, List, ◌++◌, leb, length, get_or, drop, replicate}
+use Rattle.std.specs.Prelude.{true, false, ◌≡◌, ℕ, ◌≤◌, List, ◌++◌, leb, length, get_or, drop, replicate, if◌then◌else◌}
 use Rattle.std.proofs.Math.Option.{Option, none, some}
-use Rattle.rules.specs.Rulings.{if◌then◌else◌}
 use Rattle.text.specs.declared.fields.Fields.{Fields}
 
 unfoldable pub no_fields : Fields

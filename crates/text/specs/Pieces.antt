@@ -1,7 +1,6 @@
 -- A line cut at its spaces: what the code answers of a part of it.
-use Rattle.std.specs.Prelude.{ℕ, suc, List, [], ◌∷◌, eqb, length}
+use Rattle.std.specs.Prelude.{ℕ, suc, List, [], ◌∷◌, eqb, length, if◌then◌else◌}
 use Rattle.std.proofs.Math.Option.{Option, none, some}
-use Rattle.rules.specs.Rulings.{if◌then◌else◌}
 use Rattle.rules.specs.Text.{space, pieces, digits, paired_or}
 use Rattle.text.specs.declared.number.Number.{Number}
 use Rattle.text.specs.declared.digits.Size.{Size}

@@ -1,4 +1,5 @@
 -- Laws of the rows of bits: how long each is, and how putting a row goes part by part.
+use Rattle.std.specs.Prelude.{if◌then◌else◌}
 use mathlib.Core.Path.{◌≡◌, refl, sym, ap, ◌∙◌}
 use mathlib.Core.List.{List, ◌++◌}
 use Prim.Native.Nat.{ℕ, zero, suc, ◌+◌, ◌*◌, ◌≤◌}
@@ -13,7 +14,6 @@ use Rattle.rules.specs.declared.Tables.{Tables}
 use Rattle.rules.specs.Bits.{bits_of}
 use Rattle.rules.specs.Kept.{guest_at, extent_at, source_at}
 use Rattle.rules.specs.Scan.{each_below}
-use Rattle.rules.specs.Rulings.{if◌then◌else◌}
 use Rattle.rules.specs.Widths.{header_bits, counts_bits, extent_bits, source_bits, devhandle_width, devino_width, cookie_support_width, edition_width, guests_width}
 use Rattle.rules.specs.Writing.{extent_row, source_row, counts_row, guest_row, header_row, image_row}
 use Rattle.bits.specs.Put.{put_bits}

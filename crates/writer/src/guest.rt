@@ -1,8 +1,7 @@
 // A guest's part of the image: its three counts, then its extents and its sources.
-ghost use Rattle.std.specs.Prelude.{◌≡◌, ◌+◌, ◌*◌, ◌^◌, ◌<◌, ◌≤◌, length};
+ghost use Rattle.std.specs.Prelude.{◌≡◌, ◌+◌, ◌*◌, ◌^◌, ◌<◌, ◌≤◌, length, if◌then◌else◌};
 ghost use Rattle.rules.specs.Kept.{extent_at, source_at};
 ghost use Rattle.rules.specs.Limits.{extent_limit, source_limit};
-ghost use Rattle.rules.specs.Rulings.{if◌then◌else◌};
 ghost use Rattle.rules.specs.Scan.{each_below};
 ghost use Rattle.rules.specs.Widths.{counts_bits, extent_bits, source_bits};
 ghost use Rattle.rules.specs.Writing.{extent_row, source_row, counts_row, guest_row};
