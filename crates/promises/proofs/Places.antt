@@ -24,7 +24,7 @@ use Rattle.image.proofs.FieldsLaws.{edition_read, guests_read}
 use Rattle.kept.proofs.Accepted.{AsRead, fields_as_read}
 use Rattle.promises.specs.Places.{HeaderFault, CountFault, Faultless, FieldsGive, Unread, Tells, Right}
 use Rattle.promises.specs.Promises.{Places}
-use Rattle.promises.proofs.Ruled.{Ruled, Any, ruled_then, ruled_scan, ruled_value, ruled_refused, ruled_granted}
+use Rattle.promises.proofs.Ruled.{Ruled, Any, ruled_then, ruled_scan, ruled_value}
 use Rattle.promises.proofs.Faults.{numbers_first, numbers_none, order_first, order_none, pages_first, pages_none, names_first, names_none}
 
 -- The fields are refused by 110, and by 111 where C holds of its guest number.
