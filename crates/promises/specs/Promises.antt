@@ -283,7 +283,7 @@ pub record Hits : Type 0 where
 
 -- The session.
 
--- `in_pieces`: input in pieces of any size, each of which has room for its answers, prints what the whole input prints.
+-- `in_pieces_lem`: input in pieces of any size, each of which has room for its answers, prints what the whole input prints.
 abbrev pub InPieces : Type 0
 InPieces =
     (out : List ℕ) (pieces : List (List ℕ)) → Roomy out pieces
