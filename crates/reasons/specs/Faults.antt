@@ -8,7 +8,7 @@ use Rattle.reasons.specs.declared.fault.Word.TheVariants.{Call, Head, Raise, Loa
 use Rattle.reasons.specs.declared.fault.Fault.{Fault}
 use Rattle.reasons.specs.declared.fault.Fault.TheVariants.{TooLong, CarriageReturn, OtherWord, EmptyField, NoNumber, TooFew, TooMany, NoDigit, OddDigits}
 
--- TEST or-tell FAULT then REST
+-- TEST or_tell FAULT then REST
 infixr 5 ◌or_tell◌then◌
 abbrev pub ◌or_tell◌then◌ : Bool → Fault → Option Fault → Option Fault
 ◌or_tell◌then◌ true fault rest = rest

@@ -5,7 +5,7 @@
 -- Numbers (ℕ) are whole, from 0 on, and never wrap; `a - b` is 0 where b is larger, `/` and `%` are quotient and remainder.
 -- `leb a b`, `ltb a b` and `eqb a b` are the tests a ≤ b, a < b and a = b, each true or false; `&&`, `||` and `not` join them.
 -- `[]` is the empty list, and `x ∷ xs` the list xs with x in front. `record { f = a; .. }` is a record, and `r.f` its field f.
--- `_` in a name is the place of an argument: `◌or_refuse◌then◌` is written `TEST or-refuse STATUS then REST`.
+-- `◌` in a name is the place of an argument: `◌or_refuse◌then◌` is written `TEST or_refuse STATUS then REST`.
 -- `pub`, `abbrev` and `unfoldable` say who may name a definition and how a proof looks into it; they do not change what it says.
 -- In a proof `a ≡ b` is the statement that a and b are the same.
 use Rattle.std.specs.Prelude.{Bool, true, false, List, [], ℕ}
@@ -21,7 +21,7 @@ pub data RulingBy (R A : Type 0) : Type 0 where
 abbrev pub Ruling : Type 0 → Type 0
 Ruling A = RulingBy Refusal A
 
--- TEST or-refuse STATUS then REST
+-- TEST or_refuse STATUS then REST
 infixr 5 ◌or_refuse◌then◌
 abbrev pub ◌or_refuse◌then◌ : {R A : Type 0} → Bool → R → RulingBy R A → RulingBy R A
 ◌or_refuse◌then◌ true r rest = rest

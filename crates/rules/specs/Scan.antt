@@ -12,12 +12,12 @@ unfoldable pub all_below : ℕ → (ℕ → Bool) → Bool
 all_below zero p = true
 all_below (suc n) p = all_below n p && p n
 
--- NUMBER is-from LEAST to MOST
+-- NUMBER is_from LEAST to MOST
 infix 40 ◌is_from◌to◌
 abbrev pub ◌is_from◌to◌ : ℕ → ℕ → ℕ → Bool
 ◌is_from◌to◌ n least most = leb least n && leb n most
 
--- power-of-two NUMBER from LEAST to MOST; a number has 64 bits
+-- power_of_two NUMBER from LEAST to MOST; a number has 64 bits
 infix 40 power_of_two◌from◌to◌
 unfoldable pub power_of_two◌from◌to◌ : ℕ → ℕ → ℕ → Bool
 power_of_two◌from◌to◌ n least most = some_below 64 (λ k. eqb n (2 ^ k)) && (n is_from least to most)

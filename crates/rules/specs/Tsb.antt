@@ -23,7 +23,7 @@ descriptor_at byte a = record {
 unfoldable pub is_page_index : ℕ → Bool
 is_page_index k = (eqb k 0 || eqb k 1) || (eqb k 3 || eqb k 5)
 
--- MASK is-inside ALLOWED: each of the mask's 32 bits is clear, or set in the allowed ones too
+-- MASK is_inside ALLOWED: each of the mask's 32 bits is clear, or set in the allowed ones too
 infix 40 ◌is_inside◌
 unfoldable pub ◌is_inside◌ : ℕ → ℕ → Bool
 ◌is_inside◌ mask allowed = all_below 32 (λ k. leb (mask / 2 ^ k % 2) (allowed / 2 ^ k % 2))
