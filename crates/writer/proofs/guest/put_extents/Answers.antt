@@ -1,0 +1,13 @@
+-- `guest::put_extents` meets its contract: before each turn the first i are put.
+use native.Mathlib.Omega.{arith}
+use Rattle.rules.specs.Widths.{extent_bits}
+use Rattle.writer.proofs.RowLaws.{extent_length, each_put_start, each_put_same}
+use Rattle.writer.proofs.guest.put_extents.Goals as goal
+
+pub loop-i-init : goal.loop-i-init
+loop-i-init c = (omega arith, each_put_start _ _ _)
+
+pub loop-i-preserved : goal.loop-i-preserved
+loop-i-preserved c =
+    let l = c.loop-i in
+    (omega arith, each_put_same _ _ _ _ _ l.invariant.1 extent_bits (λ j. extent_length _) _ c.put_extent.ensures)
