@@ -1,8 +1,8 @@
 // The planning desk's program, on slices: its input in, its output out.
 #![tactic(auto)]
 
-mod image;
 mod line;
+mod picture;
 mod plan;
 
 ghost use Rattle.std.specs.Prelude.{◌≡◌, true, length};
@@ -23,7 +23,7 @@ fn put_written(tables: Tables, out: &mut [u8; ROOM]) -> usize
     let mut image = [0u8; 1024];
     let written = writer::write_image(tables, &mut image);
     match written {
-        Writing::Written(n) => image::put_image_line(&image[..n], out),
+        Writing::Written(n) => picture::put_image_line(&image[..n], out),
         Writing::Refused(why) => text::put_numbers(
             [text::write_status(why), 0, 0, 0, 0],
             1,

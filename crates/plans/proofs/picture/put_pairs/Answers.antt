@@ -1,8 +1,8 @@
--- `image::put_pairs` meets its contract. The invariant: the pairs of the first i bytes stand there.
+-- `picture::put_pairs` meets its contract. The invariant: the pairs of the first i bytes stand there.
 use Rattle.plans.proofs.EachLaws.{each_start, each_next, each_end, each_place}
 use Rattle.plans.proofs.PairLaws.{all_pairs}
 use native.Mathlib.Omega.{arith}
-use Rattle.plans.proofs.image.put_pairs.Goals as goal
+use Rattle.plans.proofs.picture.put_pairs.Goals as goal
 
 pub loop-i-init : goal.loop-i-init
 loop-i-init c = (omega arith, each_start _ _ _)

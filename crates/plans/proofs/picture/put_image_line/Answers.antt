@@ -1,7 +1,7 @@
--- `image::put_image_line` meets its contract: the word, the pairs and the line feed behind each other.
+-- `picture::put_image_line` meets its contract: the word, the pairs and the line feed behind each other.
 use Rattle.plans.proofs.PairLaws.{pairs_length, image_put}
 use native.Mathlib.Omega.{arith}
-use Rattle.plans.proofs.image.put_image_line.Goals as goal
+use Rattle.plans.proofs.picture.put_image_line.Goals as goal
 
 pub bounds-out-end : goal.bounds-out-end
 bounds-out-end c = omega (arith, pairs_length c.args.bytes.now)
