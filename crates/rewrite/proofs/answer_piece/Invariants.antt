@@ -1,3 +1,4 @@
+-- `answer_piece` is safe and ends: what is held fits the line, the answers fit the buffer, and a turn takes a byte.
 use Rattle.std.proofs.Common.{length, ◌-◌, ◌≡◌, ◌≤◌}
 use Rattle.rewrite.proofs.answer_piece.Given as goal
 

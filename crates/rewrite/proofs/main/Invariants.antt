@@ -1,3 +1,4 @@
+-- `main` ends: the turns that are left fall.
 use Rattle.rewrite.proofs.main.Given as goal
 
 abbrev pub decreases-loop-turns : goal.decreases-loop-turns

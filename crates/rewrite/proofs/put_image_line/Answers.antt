@@ -1,3 +1,4 @@
+-- `put_image_line` stays in the buffer: a refusal's line has at most 51 bytes.
 use native.Mathlib.Omega.{arith}
 use lib.Seq.{length-sets}
 use mathlib.Core.Path.{◌≡◌}
@@ -6,7 +7,6 @@ use Rattle.text.proofs.PrintLaws.{loading_most}
 use Rattle.text.specs.Printed.{loading_text}
 use Rattle.rewrite.proofs.put_image_line.Goals as goal
 
--- a refusal's line has at most 51 bytes
 pub returns-in-Refused : goal.returns-in-Refused
 returns-in-Refused c =
     let a = c.load_line-loaded.result.answer in

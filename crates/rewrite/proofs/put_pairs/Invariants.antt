@@ -1,3 +1,4 @@
+-- `put_pairs` is safe and keeps the buffer's length: a turn writes two digits, and there is room for two of each byte.
 use Rattle.std.proofs.Common.{length, ◌-◌, ◌≡◌, ◌≤◌}
 use Rattle.rewrite.proofs.put_pairs.Given as goal
 
