@@ -14,7 +14,7 @@ use Rattle.rules.specs.declared.Tables.{Tables}
 use Rattle.rules.specs.Kept.{hollow_guest}
 use Rattle.rules.specs.Scan.{first_below}
 use Rattle.rules.specs.Sources.{sysino_of}
-use Rattle.rules.specs.Host.{owner_found, owner_of}
+use Rattle.rules.specs.Host.{owner_of}
 use Rattle.rules.proofs.Scan.{first_found, first_end}
 use Rattle.host.specs.Owners.{has_source, raise_owner}
 
@@ -34,11 +34,11 @@ module _ (n : ℕ) (guest : List Guest) (d : Device) where
 
   pub owner_found_lem : (g : ℕ) (t : Bool) → g < n → first_below g has ≡ Found.Nothing → t ≡ has g → t ≡ true → Owner.Guest g ≡ raise_owner n guest d
   unfolding raise_owner
-  owner_found_lem g t h a b e = ap owner_found (first_found has g n t h a b e)
+  owner_found_lem g t h a b e = first_found has g n t h a b e
 
   pub owner_none : (g : ℕ) → first_below g has ≡ Found.Nothing → g ≤ n → n ≤ g → Owner.Nobody ≡ raise_owner n guest d
   unfolding raise_owner
-  owner_none g a u v = ap owner_found (first_end has g n a u v)
+  owner_none g a u v = first_end has g n a u v
 
 -- the event that the code's match told
 pub owner_as : (tables : Tables) (e f : Event) (o : Owner) → e ≡ f → o ≡ owner_of tables f → o ≡ owner_of tables e

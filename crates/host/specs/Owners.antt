@@ -6,9 +6,8 @@ use Rattle.rules.specs.declared.Owner.{Owner}
 use Rattle.rules.specs.declared.Plant.{Plant}
 use Rattle.rules.specs.Kept.{hollow_guest}
 use Rattle.rules.specs.Limits.{guest_limit, source_limit}
-use Rattle.rules.specs.Scan.{first_below}
+use Rattle.rules.specs.Scan.{first_below, is_found}
 use Rattle.rules.specs.Sources.{sysino_of}
-use Rattle.rules.specs.Host.{is_found, owner_found}
 
 -- no more guests, and in each no more sources, than there are places
 pub record Counted (guests : ℕ) (guest : List Guest) : Type 0 where
@@ -19,4 +18,4 @@ unfoldable pub has_source : Plant → Device → Bool
 has_source plant d = is_found (sysino_of plant d.devhandle d.devino)
 
 unfoldable pub raise_owner : ℕ → List Guest → Device → Owner
-raise_owner guests guest d = owner_found (first_below guests (λ g. has_source (get_or guest g hollow_guest).plant d))
+raise_owner guests guest d = first_below guests (λ g. has_source (get_or guest g hollow_guest).plant d)

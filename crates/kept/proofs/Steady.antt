@@ -12,14 +12,14 @@ use Rattle.rules.specs.declared.Extents.{Extents}
 use Rattle.rules.specs.declared.Owner.{Owner}
 use Rattle.rules.specs.declared.Tables.{Tables}
 use Rattle.rules.specs.Limits.{guest_limit, extent_limit}
-use Rattle.rules.specs.Scan.{all_below, first_below}
+use Rattle.rules.specs.Scan.{all_below, first_below, is_found}
 use Rattle.rules.specs.Kept.{guest_at, plant_at, extent_at, source_at, extents_of}
 use Rattle.rules.specs.Real.{sight_of, valid}
 use Rattle.rules.specs.Rulings.{Outcome, outcome_of}
 use Rattle.rules.specs.Image.{run_at}
 use Rattle.rules.specs.Sources.{sysino_of}
 use Rattle.rules.specs.Tables.{keep_rules}
-use Rattle.rules.specs.Host.{plant_rule, is_found, owner_found, owner_of, long_enough, host_event}
+use Rattle.rules.specs.Host.{plant_rule, owner_of, long_enough, host_event}
 use Rattle.memory.proofs.Writes.{apply_length}
 use Rattle.tables.proofs.SoundTables.{plant_keeps_lem}
 use Rattle.kept.proofs.Settled.{settled, event_settled}
@@ -61,7 +61,7 @@ module _ (a b : Tables) (s : Steady a b) where
   unfolding owner_of
   owner_same (Event.Call c) = refl
   owner_same (Event.Head h) = refl
-  owner_same (Event.Raise d) = rw s.guests (ap (λ (p : ℕ → Bool). owner_found (first_below a.guests p)) (fun_ext (λ j. ap is_found (sysino_same j d.devhandle d.devino))))
+  owner_same (Event.Raise d) = rw s.guests (ap (λ (p : ℕ → Bool). first_below a.guests p) (fun_ext (λ j. ap is_found (sysino_same j d.devhandle d.devino))))
   owner_same (Event.Load l) = refl
   owner_same (Event.Store x) = refl
   owner_same (Event.Hit t) = refl

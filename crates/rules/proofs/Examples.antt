@@ -1,4 +1,5 @@
 -- The paper's examples that are marked P, about the host's rule itself: an image, the groups negotiated by calls, then the case.
+use Rattle.std.proofs.Common.{Ok}
 use mathlib.Core.Path.{◌≡◌, refl}
 use mathlib.Core.List.{List, [], ◌∷◌}
 use Prim.Native.Nat.{ℕ, ◌-◌, ◌^◌}
@@ -11,7 +12,7 @@ use Rattle.rules.proofs.Computing.{computing}
 pub use Rattle.rules.proofs.Worked.{worked_image, worked_guest, worked_tables, call}
 
 -- the worked image loads to these tables
-pub worked_image_lem : load worked_image ≡ record { answer = Loading.Accepted; tables = worked_tables }
+pub worked_image_lem : load worked_image ≡ record { answer = (Ok tt); tables = worked_tables }
 unfolding computing
 worked_image_lem = refl
 

@@ -4,7 +4,7 @@ use mathlib.Core.List.{List, [], ◌∷◌}
 use Prim.Native.String.{String}
 use Prim.Native.String as string
 use lib.ListN.{replicate}
-use Rattle.rules.specs.Types.{PlanLine}
+use Rattle.std.specs.Prelude.{None}
 use Rattle.rules.specs.Text.{pieces}
 use Rattle.rules.specs.Plan.{planned, plan_line, addition_in}
 use Rattle.rules.proofs.Computing.{computing}
@@ -122,6 +122,6 @@ pub longest_plan_line : plan_line (replicate 2048 0x20) ≡ addition_in (pieces 
 unfolding plan_line
 longest_plan_line = refl
 
-pub longer_plan_line : plan_line (replicate 2049 0x20) ≡ PlanLine.Bad
+pub longer_plan_line : plan_line (replicate 2049 0x20) ≡ None
 unfolding plan_line
 longer_plan_line = refl

@@ -1,4 +1,5 @@
 -- Laws of the scans, for any loop that counts up: i is the loop's index, n its end, and t what the code's test at i came to.
+use Rattle.std.proofs.Common.{Option, Some, None}
 use mathlib.Core.Bool.{Bool, true, false, ◌||◌, or-true, and-false, true≢false, false≢true}
 use mathlib.Core.Path.{◌≡◌, refl, sym, ap, ◌∙◌}
 use mathlib.Core.Logic.{⊎_elim}
@@ -6,7 +7,6 @@ use Prim.Native.Nat.{ℕ, zero, suc, ◌+◌, ◌<◌, ◌≤◌}
 use native.Mathlib.Nat.{eq-or-lt_of_le}
 use native.Mathlib.Numerals.{add-one}
 use native.Mathlib.Omega.{arith}
-use Rattle.rules.specs.Types.{Found}
 use Rattle.rules.specs.Scan.{some_below, all_below, first_below, found_or, is_found}
 
 -- a search for some number
@@ -98,30 +98,30 @@ all_of p (suc n) f = rw (all_of p n (λ i h. f i (omega arith)), f n (omega arit
 
 -- the first number
 module _ (p : ℕ → Bool) where
-  pub first_start : first_below 0 p ≡ Found.Nothing
+  pub first_start : first_below 0 p ≡ None
   unfolding first_below
   first_start = refl
 
-  pub first_next : (i : ℕ) (t : Bool) → first_below i p ≡ Found.Nothing → t ≡ p i → t ≡ false → first_below (i + 1) p ≡ Found.Nothing
+  pub first_next : (i : ℕ) (t : Bool) → first_below i p ≡ None → t ≡ p i → t ≡ false → first_below (i + 1) p ≡ None
   unfolding first_below
   first_next i t a b e = rw (add-one, a, ← b, e)
 
-  pub first_end : (i n : ℕ) → first_below i p ≡ Found.Nothing → i ≤ n → n ≤ i → Found.Nothing ≡ first_below n p
+  pub first_end : (i n : ℕ) → first_below i p ≡ None → i ≤ n → n ≤ i → None ≡ first_below n p
   first_end i n a u v =
       let q : i ≡ n = omega arith in
       sym (rw q at a)
 
-  first_at : (i n : ℕ) → i < n → first_below i p ≡ Found.Nothing → p i ≡ true → Found.At i ≡ first_below n p
+  first_at : (i n : ℕ) → i < n → first_below i p ≡ None → p i ≡ true → Some i ≡ first_below n p
   unfolding first_below
   first_at i zero h a e = absurd (omega arith)
   first_at i (suc n) h a e =
       let k : i ≤ n = omega arith in
       ⊎_elim (λ q. rw (← q, a, e)) (λ l. rw (← first_at i n l a e)) (eq-or-lt_of_le k)
 
-  pub first_found : (i n : ℕ) (t : Bool) → i < n → first_below i p ≡ Found.Nothing → t ≡ p i → t ≡ true → Found.At i ≡ first_below n p
+  pub first_found : (i n : ℕ) (t : Bool) → i < n → first_below i p ≡ None → t ≡ p i → t ≡ true → Some i ≡ first_below n p
   first_found i n t h a b e = first_at i n h a (sym b ∙ e)
 
-pub nothing_of : (p : ℕ → Bool) (n : ℕ) → ((i : ℕ) → i < n → p i ≡ false) → first_below n p ≡ Found.Nothing
+pub nothing_of : (p : ℕ → Bool) (n : ℕ) → ((i : ℕ) → i < n → p i ≡ false) → first_below n p ≡ None
 unfolding first_below
 nothing_of p zero f = refl
 nothing_of p (suc n) f = rw (nothing_of p n (λ i h. f i (omega arith)), f n (omega arith))
@@ -138,38 +138,38 @@ unfolding first_below some_below
 found_some p zero = refl
 found_some p (suc n) = rw (← found_some p n) (go (first_below n p) (p n))
   where
-    go : (x : Found) (t : Bool) → is_found (found_or x t n) ≡ (is_found x || t)
-    go Found.Nothing true = refl
-    go Found.Nothing false = refl
-    go (Found.At i) t = refl
+    go : (x : Option ℕ) (t : Bool) → is_found (found_or x t n) ≡ (is_found x || t)
+    go None true = refl
+    go None false = refl
+    go (Some i) t = refl
 
 -- of the numbers below n, where nothing is found
 pub unfound_at : (p : ℕ → Bool) (n i : ℕ) → is_found (first_below n p) ≡ false → i < n → p i ≡ false
 unfound_at p n i a h = none_at p n i (sym (found_some p n) ∙ a) h
 
-pub nothing_at : (p : ℕ → Bool) (n i : ℕ) → first_below n p ≡ Found.Nothing → i < n → p i ≡ false
+pub nothing_at : (p : ℕ → Bool) (n i : ℕ) → first_below n p ≡ None → i < n → p i ≡ false
 nothing_at p n i a h = unfound_at p n i (ap is_found a) h
 
 -- what is found lies below the limit
-pub first_below_lem : (n i : ℕ) (p : ℕ → Bool) → first_below n p ≡ Found.At i → i < n
+pub first_below_lem : (n i : ℕ) (p : ℕ → Bool) → first_below n p ≡ Some i → i < n
 unfolding first_below
 first_below_lem zero i p e = let z : ◌≡◌ {A = ℕ} 0 1 = cc in absurd (omega arith)
 first_below_lem (suc n) i p e = go (λ q. first_below_lem n i p q) (first_below n p) (p n) refl e
   where
-    go : (first_below n p ≡ Found.At i → i < n) → (x : Found) (t : Bool) → first_below n p ≡ x → found_or x t n ≡ Found.At i → i < suc n
-    go below Found.Nothing true q f = let z : n ≡ i = cc in omega arith
-    go below Found.Nothing false q f = let z : ◌≡◌ {A = ℕ} 0 1 = cc in absurd (omega arith)
-    go below (Found.At j) t q f = omega (arith, below (q ∙ f))
+    go : (first_below n p ≡ Some i → i < n) → (x : Option ℕ) (t : Bool) → first_below n p ≡ x → found_or x t n ≡ Some i → i < suc n
+    go below None true q f = let z : n ≡ i = cc in omega arith
+    go below None false q f = let z : ◌≡◌ {A = ℕ} 0 1 = cc in absurd (omega arith)
+    go below (Some j) t q f = omega (arith, below (q ∙ f))
 
 -- the test holds of what is found, and of no number before it
-pub first_tells : (p : ℕ → Bool) (n i : ℕ) → first_below n p ≡ Found.At i → (p i ≡ true) × (first_below i p ≡ Found.Nothing)
+pub first_tells : (p : ℕ → Bool) (n i : ℕ) → first_below n p ≡ Some i → (p i ≡ true) × (first_below i p ≡ None)
 unfolding first_below
 first_tells p zero i e = absurd (let z : ◌≡◌ {A = ℕ} 0 1 = cc in omega arith)
 first_tells p (suc n) i e = go (λ q. first_tells p n i q) (first_below n p) (p n) refl refl e
   where
-    go : (first_below n p ≡ Found.At i → (p i ≡ true) × (first_below i p ≡ Found.Nothing)) → (x : Found) (t : Bool) → first_below n p ≡ x → p n ≡ t → found_or x t n ≡ Found.At i → (p i ≡ true) × (first_below i p ≡ Found.Nothing)
-    go before Found.Nothing true q u f =
+    go : (first_below n p ≡ Some i → (p i ≡ true) × (first_below i p ≡ None)) → (x : Option ℕ) (t : Bool) → first_below n p ≡ x → p n ≡ t → found_or x t n ≡ Some i → (p i ≡ true) × (first_below i p ≡ None)
+    go before None true q u f =
         let z : n ≡ i = cc in
         (rw (← z) u, rw (← z) q)
-    go before Found.Nothing false q u f = absurd (let z : ◌≡◌ {A = ℕ} 0 1 = cc in omega arith)
-    go before (Found.At j) t q u f = before (q ∙ f)
+    go before None false q u f = absurd (let z : ◌≡◌ {A = ℕ} 0 1 = cc in omega arith)
+    go before (Some j) t q u f = before (q ∙ f)

@@ -1,9 +1,9 @@
 -- "Entry to every event": which guest an event belongs to, what is tried before anything, and what the host's tables and
 -- memory are afterwards.
-use Rattle.std.specs.Prelude.{Bool, true, false, List, ℕ, ◌+◌, ◌*◌, leb, ltb, length}
-use Rattle.rules.specs.Types.{Found, Plant, Tables, Event, Owner, Answer, Refused, BadTables, ShortMemory, NoCaller, NoSource}
+use Rattle.std.specs.Prelude.{Bool, List, ℕ, ◌+◌, ◌*◌, leb, ltb, length, Option, Some, None}
+use Rattle.rules.specs.Types.{Plant, Tables, Event, Answer, Refused, BadTables, ShortMemory, NoCaller, NoSource}
 use Rattle.rules.specs.Limits.{guest_limit, extent_limit, page_size}
-use Rattle.rules.specs.Scan.{all_below, first_below}
+use Rattle.rules.specs.Scan.{all_below, first_below, is_found}
 use Rattle.rules.specs.Kept.{plant_at, extents_of, with_plant}
 use Rattle.rules.specs.Real.{Sight, sight_of, apply}
 use Rattle.rules.specs.Image.{run_at}
@@ -27,22 +27,14 @@ plant_rule sight plant (Event.Hit t) =
     tsb_hit sight plant t.cpu t.side t.context t.index t.ticks
 
 -- "An event belongs to the guest it names, a raise to the guest that has the source; a raise that answers 104 belongs to none."
-abbrev pub is_found : Found → Bool
-is_found Found.Nothing = false
-is_found (Found.At i) = true
-
-abbrev pub owner_found : Found → Owner
-owner_found Found.Nothing = Owner.Nobody
-owner_found (Found.At g) = Owner.Guest g
-
-unfoldable pub owner_of : Tables → Event → Owner
-owner_of tables (Event.Call c) = Owner.Guest c.guest
-owner_of tables (Event.Head h) = Owner.Guest h.guest
+unfoldable pub owner_of : Tables → Event → Option ℕ
+owner_of tables (Event.Call c) = Some c.guest
+owner_of tables (Event.Head h) = Some h.guest
 owner_of tables (Event.Raise d) =
-    owner_found (first_below tables.guests (λ g. is_found (sysino_of (plant_at tables g) d.devhandle d.devino)))
-owner_of tables (Event.Load l) = Owner.Guest l.guest
-owner_of tables (Event.Store s) = Owner.Guest s.guest
-owner_of tables (Event.Hit t) = Owner.Guest t.guest
+    first_below tables.guests (λ g. is_found (sysino_of (plant_at tables g) d.devhandle d.devino))
+owner_of tables (Event.Load l) = Some l.guest
+owner_of tables (Event.Store s) = Some s.guest
+owner_of tables (Event.Hit t) = Some t.guest
 
 -- the rule on memory (102): it does not end "before the end of any extent's host pages"
 unfoldable pub long_enough : Tables → ℕ → Bool
@@ -64,9 +56,9 @@ put_back tables memory g o = record {
 }
 
 -- the owner's plant answers; "no such guest 103 (raise: no such source 104)"
-abbrev pub answered_by : Tables → List ℕ → Event → Owner → Ruling HostOutcome
-answered_by tables memory event Owner.Nobody = refused NoSource
-answered_by tables memory event (Owner.Guest g) =
+abbrev pub answered_by : Tables → List ℕ → Event → Option ℕ → Ruling HostOutcome
+answered_by tables memory event None = refused NoSource
+answered_by tables memory event (Some g) =
     ltb g tables.guests or_refuse NoCaller then
     granted
     (put_back tables memory g

@@ -1,6 +1,6 @@
 -- "The partition image": from bytes to tables. Nothing here speaks of memory.
-use Rattle.std.specs.Prelude.{Bool, ◌&&◌, ◌||◌, not, ℕ, zero, suc, ◌+◌, ◌-◌, ◌*◌, ◌/◌, ◌%◌, min, max, List, length, set, replicate, leb, ltb, eqb}
-use Rattle.rules.specs.Types.{Found, Extent, Extents, Source, Guest, Tables, ImageRefusal, ImageShort, HeaderOrCount, ExtentNumbers, ExtentOrder, PagesShared, SourceTwice, FillOrBehind, Loading, Loaded}
+use Rattle.std.specs.Prelude.{Bool, ◌&&◌, ◌||◌, not, ℕ, zero, suc, ◌+◌, ◌-◌, ◌*◌, ◌/◌, ◌%◌, min, max, List, length, set, replicate, leb, ltb, eqb, Option, Ok, Err}
+use Rattle.rules.specs.Types.{Extent, Extents, Source, Guest, Tables, ImageRefusal, ImageShort, HeaderOrCount, ExtentNumbers, ExtentOrder, PagesShared, SourceTwice, FillOrBehind, Loading, Loaded}
 use Rattle.rules.specs.Limits.{guest_limit, cpu_limit, extent_limit, source_limit, real_pages, host_pages}
 use Rattle.rules.specs.Scan.{some_below, all_below, ◌is_from◌to◌, first_below, is_found}
 use Rattle.rules.specs.Kept.{blank_extent, blank_cpu, blank_source, blank_guest, no_versions, no_guests, guest_at, plant_at, extent_at, source_at}
@@ -134,7 +134,7 @@ unfoldable pub breaks : (Extents → ℕ → Bool) → Extents → ℕ → Bool
 breaks rule extents i = ltb i extents.extents && not (rule extents i)
 
 -- the first extent that breaks a rule on a guest's extents
-unfoldable pub first_breaking : (Extents → ℕ → Bool) → Tables → Found
+unfoldable pub first_breaking : (Extents → ℕ → Bool) → Tables → Option ℕ
 first_breaking rule tables =
     first_below (guest_limit * extent_limit) (λ k. breaks rule (guest_at tables (k / extent_limit)).extents (k % extent_limit))
 
@@ -148,7 +148,7 @@ share x y = ltb (max x.host y.host) (min (x.host + x.count) (y.host + y.count))
 
 -- "every run of host pages is compared with every other, and the first pair that shares a page ends the search": of two, "the
 -- earliest extent .. that clashes with one before it" (request No. 4)
-unfoldable pub shares_before : Tables → Found
+unfoldable pub shares_before : Tables → Option ℕ
 shares_before tables = first_below (guest_limit * extent_limit) (λ j. some_below j (λ i. share (run_at tables i) (run_at tables j)))
 
 abbrev pub pages_shared : Tables → Bool
@@ -169,7 +169,7 @@ unfoldable pub twins : Tables → ℕ → ℕ → Bool
 twins tables i j = listed tables i && named (listed_at tables i) (listed_at tables j).devhandle (listed_at tables j).devino
 
 -- "no two sources on the host have the same devhandle and devino": one that is there, and one before it
-unfoldable pub named_before : Tables → Found
+unfoldable pub named_before : Tables → Option ℕ
 named_before tables = first_below (guest_limit * source_limit) (λ j. listed tables j && some_below j (λ i. twins tables i j))
 
 abbrev pub source_twice : Tables → Bool
@@ -196,8 +196,8 @@ read_image bytes = read_fields bytes grants λ fields. judged bytes fields.end f
 
 -- an accepted image answers 0; 110 to 116 leave "tables with no guest"
 abbrev pub loaded_as : Reading Tables → Loaded
-loaded_as (refused r) = record { answer = Loading.Refused r; tables = no_guests }
-loaded_as (granted tables) = record { answer = Loading.Accepted; tables = tables }
+loaded_as (refused r) = record { answer = Err r; tables = no_guests }
+loaded_as (granted tables) = record { answer = (Ok tt); tables = tables }
 
 unfoldable pub load : List ℕ → Loaded
 load bytes = loaded_as (read_image bytes)

@@ -1,6 +1,5 @@
 -- The program `plan` (request No. 2): its input is a plan, as lines, or one image line as in a session, and it prints the other form.
-use Rattle.std.specs.Prelude.{Bool, ◌&&◌, List, [], ◌∷◌, ◌++◌, ℕ, suc, ◌+◌, ◌-◌, ◌/◌, ◌%◌, ◌^◌, leb, ltb, eqb, length, get_or, set, replicate, if◌then◌else◌}
-use Rattle.std.proofs.Math.Option.{Option, none, some}
+use Rattle.std.specs.Prelude.{Bool, ◌&&◌, List, [], ◌∷◌, ◌++◌, ℕ, suc, ◌+◌, ◌-◌, ◌/◌, ◌%◌, ◌^◌, leb, ltb, eqb, length, get_or, set, replicate, if◌then◌else◌, Option, Some, None, Ok, Err}
 use Rattle.rules.specs.Types.{Extent, Extents, Source, Plant, Guest, Tables, Loading, Loaded, WriteRefusal, PlanLine, Stage, Desk}
 use Rattle.rules.specs.Limits.{guest_limit, cpu_limit, extent_limit, source_limit}
 use Rattle.rules.specs.Scan.{each_below, ◌is_from◌to◌}
@@ -44,24 +43,24 @@ unfoldable pub source_held : List ℕ → Bool
 source_held ns = ltb (get_or ns 0 0) (2 ^ 32) && (ltb (get_or ns 1 0) (2 ^ 8) && ltb (get_or ns 2 0) 2)
 
 -- what a word and its numbers add; "guest .. cpus", which tables hold in 8 bits
-unfoldable pub addition_of : List ℕ → List ℕ → PlanLine
+unfoldable pub addition_of : List ℕ → List ℕ → Option PlanLine
 addition_of word ns =
-    if same word word_guest && (eqb (length ns) 1 && ltb (get_or ns 0 0) (2 ^ 8)) then PlanLine.Guest (get_or ns 0 0) else
-    if same word word_extent && (eqb (length ns) 3 && extent_held ns) then PlanLine.Extent (extent_of ns) else
-    if same word source_word && (eqb (length ns) 3 && source_held ns) then PlanLine.Source (source_of ns) else
-    PlanLine.Bad
+    if same word word_guest && (eqb (length ns) 1 && ltb (get_or ns 0 0) (2 ^ 8)) then Some (PlanLine.Guest (get_or ns 0 0)) else
+    if same word word_extent && (eqb (length ns) 3 && extent_held ns) then Some (PlanLine.Extent (extent_of ns)) else
+    if same word source_word && (eqb (length ns) 3 && source_held ns) then Some (PlanLine.Source (source_of ns)) else
+    None
 
-abbrev pub addition_or : List ℕ → Option (List ℕ) → PlanLine
-addition_or word none = PlanLine.Bad
-addition_or word (some ns) = addition_of word ns
+abbrev pub addition_or : List ℕ → Option (List ℕ) → Option PlanLine
+addition_or word None = None
+addition_or word (Some ns) = addition_of word ns
 
-abbrev pub addition_in : List (List ℕ) → PlanLine
-addition_in [] = PlanLine.Bad
+abbrev pub addition_in : List (List ℕ) → Option PlanLine
+addition_in [] = None
 addition_in (word ∷ texts) = addition_or word (fields texts)
 
 -- a line of a plan: fields "as in a session", and no longer than a line there
-unfoldable pub plan_line : List ℕ → PlanLine
-plan_line line = if leb (length line) 2048 then addition_in (pieces [] line) else PlanLine.Bad
+unfoldable pub plan_line : List ℕ → Option PlanLine
+plan_line line = if leb (length line) 2048 then addition_in (pieces [] line) else None
 
 -- The tables that lines draw.
 
@@ -103,17 +102,17 @@ bad_at n tables = record { stage = Stage.Bad n; tables = tables }
 
 -- line n is added, "a line that is no such line, or that tables cannot hold" is not: a guest behind the last place, an extent or a source
 -- before the first guest or behind the last place
-unfoldable pub drawn : ℕ → Tables → PlanLine → Desk
-drawn n tables PlanLine.Bad = bad_at n tables
-drawn n tables (PlanLine.Guest cpus) =
+unfoldable pub drawn : ℕ → Tables → Option PlanLine → Desk
+drawn n tables None = bad_at n tables
+drawn n tables (Some (PlanLine.Guest cpus)) =
     if ltb tables.guests guest_limit then
     drawing (record { guests = tables.guests + 1; guest = set tables.guest tables.guests (new_guest cpus) })
     else bad_at n tables
-drawn n tables (PlanLine.Extent x) =
+drawn n tables (Some (PlanLine.Extent x)) =
     if some_guest tables && ltb (last_guest tables).extents.extents extent_limit then
     drawing (with_last tables (record { extents = more_extents (last_guest tables).extents x; plant = (last_guest tables).plant }))
     else bad_at n tables
-drawn n tables (PlanLine.Source s) =
+drawn n tables (Some (PlanLine.Source s)) =
     if some_guest tables && ltb (last_guest tables).plant.sources source_limit then
     drawing (with_last tables (record { extents = (last_guest tables).extents; plant = more_sources (last_guest tables).plant s }))
     else bad_at n tables
@@ -186,8 +185,8 @@ written_text (granted bytes) = image_line bytes
 
 -- "an image line that is refused prints what loading answers"
 abbrev pub loaded_text : Tables → Loading → List ℕ
-loaded_text tables Loading.Accepted = plan_text tables
-loaded_text tables (Loading.Refused r) = spaced (loading_numbers (Loading.Refused r)) ++ (line_feed ∷ [])
+loaded_text tables (Ok u) = plan_text tables
+loaded_text tables (Err r) = spaced (loading_numbers (Err r)) ++ (line_feed ∷ [])
 
 -- a bad line "prints bad and its number and no image"
 abbrev pub stage_text : Tables → Stage → List ℕ

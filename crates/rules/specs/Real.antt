@@ -1,7 +1,7 @@
 -- "A real address and a host offset": what a guest sees of memory through its extents. `located` is the only place that says
 -- where a real address lies, and `valid` which ranges are a guest's own; every other rule speaks of a Sight.
-use Rattle.std.specs.Prelude.{ℕ, zero, suc, ◌+◌, ◌-◌, ◌*◌, ◌/◌, ◌%◌, ◌^◌, Bool, ◌&&◌, cond, List, [], ◌∷◌, leb, ltb, get_or, set}
-use Rattle.rules.specs.Types.{Real, Host, Place, Extent}
+use Rattle.std.specs.Prelude.{ℕ, zero, suc, ◌+◌, ◌-◌, ◌*◌, ◌/◌, ◌%◌, ◌^◌, Bool, ◌&&◌, cond, List, [], ◌∷◌, leb, ltb, get_or, set, Option, Some, None}
+use Rattle.rules.specs.Types.{Real, Host, Extent}
 use Rattle.rules.specs.Limits.{page_size}
 
 -- "an extent maps real page r+i to host page h+i": its first real address, and the one past its last
@@ -20,9 +20,9 @@ abbrev pub holds : Extent → ℕ → Bool
 holds x a = leb (low x) a && ltb a (high x)
 
 -- where the real address a lies on the host
-unfoldable pub located : List Extent → ℕ → Place
-located [] a = Place.Nowhere
-located (x ∷ xs) a = cond (holds x a) (Place.At (host_offset x (record { 0 = a }))) (located xs a)
+unfoldable pub located : List Extent → ℕ → Option Host
+located [] a = None
+located (x ∷ xs) a = cond (holds x a) (Some (host_offset x (record { 0 = a }))) (located xs a)
 
 -- how far every address from a on lies in some extent: where an extent has the address that was reached, to that extent's end.
 -- "a guest's extents ascend", so one that goes on from there stands behind it in the list.
@@ -37,9 +37,9 @@ unfoldable pub valid : List Extent → ℕ → ℕ → Bool
 valid extents a n = leb (a + n) (reach extents a)
 
 -- the byte of the host's memory at a place; 0 where there is none
-abbrev pub byte_there : List ℕ → Place → ℕ
-byte_there memory Place.Nowhere = 0
-byte_there memory (Place.At h) = get_or memory h.0 0
+abbrev pub byte_there : List ℕ → Option Host → ℕ
+byte_there memory None = 0
+byte_there memory (Some h) = get_or memory h.0 0
 
 -- the byte at the real address a
 unfoldable pub byte_at : List Extent → List ℕ → ℕ → ℕ
@@ -82,9 +82,9 @@ pub record Write : Type 0 where
   pub bytes : List ℕ
 
 -- the host's memory with a byte at a place
-abbrev pub put_there : List ℕ → Place → ℕ → List ℕ
-put_there memory Place.Nowhere v = memory
-put_there memory (Place.At h) v = set memory h.0 v
+abbrev pub put_there : List ℕ → Option Host → ℕ → List ℕ
+put_there memory None v = memory
+put_there memory (Some h) v = set memory h.0 v
 
 -- with bytes from the real address a on, each put where its own address lies
 unfoldable pub put_bytes : List Extent → List ℕ → ℕ → List ℕ → List ℕ

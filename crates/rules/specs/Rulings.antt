@@ -8,8 +8,8 @@
 -- `◌` in a name is the place of an argument: `◌or_refuse◌then◌` is written `TEST or_refuse STATUS then REST`.
 -- `pub`, `abbrev` and `unfoldable` say who may name a definition and how a proof looks into it; they do not change what it says.
 -- In a proof `a ≡ b` is the statement that a and b are the same.
-use Rattle.std.specs.Prelude.{Bool, true, false, List, [], ℕ}
-use Rattle.rules.specs.Types.{Found, Plant, Answer, Done, Refused, Refusal}
+use Rattle.std.specs.Prelude.{Bool, true, false, List, [], ℕ, Option, Some, None}
+use Rattle.rules.specs.Types.{Plant, Answer, Done, Refused, Refusal}
 use Rattle.rules.specs.Real.{Write}
 
 -- a rule refuses by a status and changes nothing, or grants what it says; R is the type of its refusals
@@ -29,9 +29,9 @@ abbrev pub ◌or_refuse◌then◌ : {R A : Type 0} → Bool → R → RulingBy R
 
 -- SCAN refuses STATUS then REST: what the scan finds is refused, and the status is told where it was found
 infixr 5 ◌refuses◌then◌
-abbrev pub ◌refuses◌then◌ : {R A : Type 0} → Found → (ℕ → R) → RulingBy R A → RulingBy R A
-◌refuses◌then◌ Found.Nothing r rest = rest
-◌refuses◌then◌ (Found.At k) r rest = refused (r k)
+abbrev pub ◌refuses◌then◌ : {R A : Type 0} → Option ℕ → (ℕ → R) → RulingBy R A → RulingBy R A
+◌refuses◌then◌ None r rest = rest
+◌refuses◌then◌ (Some k) r rest = refused (r k)
 
 -- RULING grants λ VALUE. REST
 infixr 5 ◌grants◌

@@ -1,6 +1,5 @@
 -- Tests of a number, and over the numbers below a limit: what the rules say of "each", "any" and "the first".
-use Rattle.std.specs.Prelude.{Bool, true, false, ◌&&◌, ◌||◌, cond, List, [], ◌++◌, ℕ, zero, suc, ◌^◌, leb, eqb}
-use Rattle.rules.specs.Types.{Found}
+use Rattle.std.specs.Prelude.{Bool, true, false, ◌&&◌, ◌||◌, cond, List, [], ◌++◌, ℕ, zero, suc, ◌^◌, leb, eqb, Option, Some, None}
 
 -- p holds of some number below n
 unfoldable pub some_below : ℕ → (ℕ → Bool) → Bool
@@ -23,19 +22,19 @@ unfoldable pub power_of_two◌from◌to◌ : ℕ → ℕ → ℕ → Bool
 power_of_two◌from◌to◌ n least most = some_below 64 (λ k. eqb n (2 ^ k)) && (n is_from least to most)
 
 -- the place that was found before, or n if the test holds there
-abbrev pub found_or : Found → Bool → ℕ → Found
-found_or Found.Nothing b n = cond b (Found.At n) Found.Nothing
-found_or (Found.At i) b n = Found.At i
+abbrev pub found_or : Option ℕ → Bool → ℕ → Option ℕ
+found_or None b n = cond b (Some n) None
+found_or (Some i) b n = Some i
 
 -- the first number below n of which p holds
-unfoldable pub first_below : ℕ → (ℕ → Bool) → Found
-first_below zero p = Found.Nothing
+unfoldable pub first_below : ℕ → (ℕ → Bool) → Option ℕ
+first_below zero p = None
 first_below (suc n) p = found_or (first_below n p) (p n) n
 
 -- the scan found something
-abbrev pub is_found : Found → Bool
-is_found Found.Nothing = false
-is_found (Found.At i) = true
+abbrev pub is_found : Option ℕ → Bool
+is_found None = false
+is_found (Some i) = true
 
 -- what f gives for each number below n, one behind the other
 unfoldable pub each_below : ℕ → (ℕ → List ℕ) → List ℕ

@@ -1,6 +1,6 @@
 -- "Interrupt sources": 0xa0 to 0xae (000, section 10; 002, section 3) and raise.
-use Rattle.std.specs.Prelude.{Bool, ◌&&◌, ◌||◌, not, List, ◌++◌, ℕ, leb, ltb, eqb, replicate, if◌then◌else◌}
-use Rattle.rules.specs.Types.{Found, Source, Plant, SourceCall, CookieCall, One, Refusal, EINVAL, ENOCPU, ENOTSUPPORTED, NoSource}
+use Rattle.std.specs.Prelude.{Bool, ◌&&◌, ◌||◌, not, List, ◌++◌, ℕ, leb, ltb, eqb, replicate, if◌then◌else◌, Option, Some, None}
+use Rattle.rules.specs.Types.{Source, Plant, SourceCall, CookieCall, One, Refusal, EINVAL, ENOCPU, ENOTSUPPORTED, NoSource}
 use Rattle.rules.specs.Scan.{first_below}
 use Rattle.rules.specs.Kept.{source_at, with_source, with_enabled, with_state, with_target, with_cookie}
 use Rattle.rules.specs.Real.{word_bytes}
@@ -9,13 +9,13 @@ use Rattle.rules.specs.Rulings.{Ruling, refused, granted, Outcome, ◌or_refuse�
 use Rattle.rules.specs.Queues.{Put, put}
 
 -- "Sysino is the position in the guest's own list."
-unfoldable pub sysino_of : Plant → ℕ → ℕ → Found
+unfoldable pub sysino_of : Plant → ℕ → ℕ → Option ℕ
 sysino_of plant devhandle devino = first_below plant.sources (λ i. named (source_at plant i) devhandle devino)
 
 -- the position, or the refusal where there is none: "source not the caller's EINVAL, a neighbour's and a missing one alike"
-abbrev pub found : Refusal → Found → Ruling ℕ
-found r Found.Nothing = refused r
-found r (Found.At i) = granted i
+abbrev pub found : Refusal → Option ℕ → Ruling ℕ
+found r None = refused r
+found r (Some i) = granted i
 
 -- the values that a setting has, and the rule on tables asks for: "enabled (0 or 1), state (idle 0, received 1, delivered 2)"
 abbrev pub enabled_value : ℕ → Bool

@@ -1,5 +1,5 @@
 -- "The statuses": the five numbers of the answer to an event, the three of loading, and the two of writing.
-use Rattle.std.specs.Prelude.{ℕ, List, [], ◌∷◌}
+use Rattle.std.specs.Prelude.{ℕ, List, [], ◌∷◌, Ok, Err}
 use Rattle.rules.specs.Types.{Refusal, ENOCPU, ENORADDR, EBADPGSZ, EBADTSB, EINVAL, EBADTRAP, EBADALIGN, EWOULDBLOCK, ENOTSUPPORTED, BadTables, ShortMemory, NoCaller, NoSource, ImageRefusal, ImageShort, HeaderOrCount, ExtentNumbers, ExtentOrder, PagesShared, SourceTwice, FillOrBehind, Answer, Done, One, Two, Refused, Loading, WriteRefusal, Writing}
 
 unfoldable pub status_of : Refusal → ℕ
@@ -38,8 +38,8 @@ image_numbers (SourceTwice guest at) = 115 ∷ guest ∷ at ∷ []
 image_numbers (FillOrBehind guests) = 116 ∷ guests ∷ 0 ∷ []
 
 unfoldable pub loading_numbers : Loading → List ℕ
-loading_numbers Loading.Accepted = 0 ∷ 0 ∷ 0 ∷ []
-loading_numbers (Loading.Refused r) = image_numbers r
+loading_numbers (Ok u) = 0 ∷ 0 ∷ 0 ∷ []
+loading_numbers (Err r) = image_numbers r
 
 -- "101, 105 for tables with no guest, 106 for a buffer too short" (request No. 2)
 unfoldable pub write_status : WriteRefusal → ℕ
@@ -49,5 +49,5 @@ write_status WriteRefusal.ShortBuffer = 106
 
 -- the status and "the length"; a refusal "answers length 0"
 unfoldable pub writing_numbers : Writing → List ℕ
-writing_numbers (Writing.Written n) = 0 ∷ n ∷ []
-writing_numbers (Writing.Refused r) = write_status r ∷ 0 ∷ []
+writing_numbers (Ok n) = 0 ∷ n ∷ []
+writing_numbers (Err r) = write_status r ∷ 0 ∷ []

@@ -1,5 +1,5 @@
 -- "Tables must hold": the rule on tables (101), as a test.
-use Rattle.std.specs.Prelude.{Bool, true, false, ◌&&◌, ◌||◌, not, ℕ, ◌/◌, ◌%◌, leb, ltb, eqb, if◌then◌else◌}
+use Rattle.std.specs.Prelude.{Bool, true, false, Some, ◌&&◌, ◌||◌, not, ℕ, ◌/◌, ◌%◌, leb, ltb, eqb, if◌then◌else◌}
 use Rattle.rules.specs.Types.{Group, Extent, Extents, Ring, QueueRecord, Tsb, Tsbs, Cpu, Source, Versions, Plant, Guest, Tables}
 use Rattle.rules.specs.Limits.{guest_limit, cpu_limit, extent_limit, source_limit, queue_limit, tsb_limit, devhandles, devinos}
 use Rattle.rules.specs.Scan.{all_below}
@@ -82,7 +82,7 @@ cpu_right valid cpu =
 
 -- "versions as negotiable": the major of each group 0, where none is, or one that it has
 abbrev pub major_right : Versions → Group → Bool
-major_right v group = leb (major_of v group) (newest group)
+major_right v group = leb (major_of v (Some group)) (newest (Some group))
 
 unfoldable pub versions_right : Versions → Bool
 versions_right v = (major_right v Group.Sun4v && major_right v Group.Core) && (major_right v Group.Interrupt && major_right v Group.Statistics)

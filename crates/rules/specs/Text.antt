@@ -1,6 +1,5 @@
 -- "The session program": the text of a line, as bytes. Fields in, numbers out.
-use Rattle.std.specs.Prelude.{Bool, true, false, ◌&&◌, List, [], ◌∷◌, ◌++◌, ℕ, zero, suc, ◌+◌, ◌-◌, ◌*◌, ◌/◌, ◌%◌, leb, ltb, eqb, length, get_or, if◌then◌else◌}
-use Rattle.std.proofs.Math.Option.{Option, none, some}
+use Rattle.std.specs.Prelude.{Bool, true, false, ◌&&◌, List, [], ◌∷◌, ◌++◌, ℕ, zero, suc, ◌+◌, ◌-◌, ◌*◌, ◌/◌, ◌%◌, leb, ltb, eqb, length, get_or, if◌then◌else◌, Option, Some, None}
 use Prim.Native.Char.{code}
 use Prim.Native.String.{String}
 use Prim.Native.String as string
@@ -59,19 +58,19 @@ pieces piece (b ∷ bs) = if eqb b space then piece ∷ pieces [] bs else pieces
 -- "hex of either case": the value of a digit, by its code (0 to 9, a to f, A to F)
 unfoldable pub digit_of : ℕ → Option ℕ
 digit_of b =
-    if b is_from 0x30 to 0x39 then some (b - 0x30) else
-    if b is_from 0x61 to 0x66 then some (b - 0x57) else
-    if b is_from 0x41 to 0x46 then some (b - 0x37) else
-    none
+    if b is_from 0x30 to 0x39 then Some (b - 0x30) else
+    if b is_from 0x61 to 0x66 then Some (b - 0x57) else
+    if b is_from 0x41 to 0x46 then Some (b - 0x37) else
+    None
 
 -- the digits of a text, if all are digits
 abbrev pub consed : Option ℕ → Option (List ℕ) → Option (List ℕ)
-consed none ds = none
-consed (some d) none = none
-consed (some d) (some ds) = some (d ∷ ds)
+consed None ds = None
+consed (Some d) None = None
+consed (Some d) (Some ds) = Some (d ∷ ds)
 
 unfoldable pub digits : List ℕ → Option (List ℕ)
-digits [] = some []
+digits [] = Some []
 digits (b ∷ bs) = consed (digit_of b) (digits bs)
 
 -- the number that digits make, most significant first, written behind those of n
@@ -81,25 +80,25 @@ value_of n (d ∷ ds) = value_of (n * 16 + d) ds
 
 -- a field: "1 to 16 digits"
 abbrev pub numbered : Option (List ℕ) → Option ℕ
-numbered none = none
-numbered (some ds) = some (value_of 0 ds)
+numbered None = None
+numbered (Some ds) = Some (value_of 0 ds)
 
 unfoldable pub field : List ℕ → Option ℕ
-field text = if length text is_from 1 to 16 then numbered (digits text) else none
+field text = if length text is_from 1 to 16 then numbered (digits text) else None
 
 -- all fields, if each is a number
 unfoldable pub fields : List (List ℕ) → Option (List ℕ)
-fields [] = some []
+fields [] = Some []
 fields (text ∷ texts) = consed (field text) (fields texts)
 
 -- the bytes that pairs of digits make, if the digits are even in number
 abbrev pub byte_of : ℕ → ℕ → Option (List ℕ) → Option (List ℕ)
-byte_of d e none = none
-byte_of d e (some bytes) = some ((d * 16 + e) ∷ bytes)
+byte_of d e None = None
+byte_of d e (Some bytes) = Some ((d * 16 + e) ∷ bytes)
 
 unfoldable pub paired : List ℕ → Option (List ℕ)
-paired [] = some []
-paired (d ∷ []) = none
+paired [] = Some []
+paired (d ∷ []) = None
 paired (d ∷ (e ∷ ds)) = byte_of d e (paired ds)
 
 -- the pieces in one: an image's "spaces skipped"
@@ -165,17 +164,17 @@ event_line word ns =
     bad
 
 abbrev pub event_or : List ℕ → Option (List ℕ) → Line
-event_or word none = bad
-event_or word (some ns) = event_line word ns
+event_or word None = bad
+event_or word (Some ns) = event_line word ns
 
 -- "The image is any number of hex digits, none included, its spaces skipped."
 abbrev pub paired_or : Option (List ℕ) → Option (List ℕ)
-paired_or none = none
-paired_or (some ds) = paired ds
+paired_or None = None
+paired_or (Some ds) = paired ds
 
 abbrev pub image_or : Option (List ℕ) → Line
-image_or none = bad
-image_or (some bytes) = image bytes
+image_or None = bad
+image_or (Some bytes) = image bytes
 
 -- a line's first word and what follows it
 abbrev pub line_of : List (List ℕ) → Line

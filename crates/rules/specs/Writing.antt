@@ -1,6 +1,6 @@
 -- Writing partition images (request No. 2): "from tables to an image, into a lent buffer, with the length". In the order of "The partition
 -- image", and with the widths that its reader has.
-use Rattle.std.specs.Prelude.{List, ◌++◌, ℕ, leb, length, drop, if◌then◌else◌}
+use Rattle.std.specs.Prelude.{List, ◌++◌, ℕ, leb, length, drop, if◌then◌else◌, Ok, Err}
 use Rattle.rules.specs.Types.{Extent, Source, Guest, Tables, WriteRefusal, Writing}
 use Rattle.rules.specs.Scan.{each_below}
 use Rattle.rules.specs.Kept.{guest_at, extent_at, source_at}
@@ -58,8 +58,8 @@ pub record WriteOutcome : Type 0 where
 
 -- each refusal "leaves the buffer unchanged"; "bytes past the length stay"
 abbrev pub write_outcome : List ℕ → RulingBy WriteRefusal (List ℕ) → WriteOutcome
-write_outcome buffer (refused r) = record { answer = Writing.Refused r; buffer = buffer }
-write_outcome buffer (granted image) = record { answer = Writing.Written (length image); buffer = image ++ drop (length image) buffer }
+write_outcome buffer (refused r) = record { answer = Err r; buffer = buffer }
+write_outcome buffer (granted image) = record { answer = Ok (length image); buffer = image ++ drop (length image) buffer }
 
 unfoldable pub write_image : Tables → List ℕ → WriteOutcome
 write_image tables buffer = write_outcome buffer (write_rule tables (length buffer))

@@ -23,28 +23,14 @@ pub const TSBS: usize = 4;
 pub const PAGE_SIZE: usize = 8192;
 
 // A real address, which a guest names, and an offset into the host's memory. Only an extent turns one into the other.
-#[derive(Clone, Copy)]
+#[derive(Clone, Copy, PartialEq, Eq)]
 pub struct Real(pub u64);
 
-#[derive(Clone, Copy)]
+#[derive(Clone, Copy, PartialEq, Eq)]
 pub struct Host(pub usize);
 
-// Where a real address lies on the host.
-#[derive(Clone, Copy)]
-pub enum Place {
-    Nowhere,
-    At(Host),
-}
-
-// A position in a list.
-#[derive(Clone, Copy)]
-pub enum Found {
-    Nothing,
-    At(usize),
-}
-
 // Real pages real .. real + count are host pages host .. host + count.
-#[derive(Clone, Copy)]
+#[derive(Clone, Copy, PartialEq, Eq)]
 pub struct Extent {
     pub real: u32,
     pub count: u16,
@@ -52,14 +38,14 @@ pub struct Extent {
 }
 
 // The memory of a guest.
-#[derive(Clone, Copy)]
+#[derive(Clone, Copy, PartialEq, Eq)]
 pub struct Extents {
     pub extents: u8,
     pub extent: [Extent; EXTENTS],
 }
 
 // The ring of a queue: its first real address, and in bytes its size and the places of its head and tail.
-#[derive(Clone, Copy)]
+#[derive(Clone, Copy, PartialEq, Eq)]
 pub struct Ring {
     pub base: u64,
     pub size: u16,
@@ -68,19 +54,19 @@ pub struct Ring {
 }
 
 // A queue record is either unset or a ring.
-#[derive(Clone, Copy)]
+#[derive(Clone, Copy, PartialEq, Eq)]
 pub enum QueueRecord {
     Unset,
     Set(Ring),
 }
 
-#[derive(Clone, Copy)]
+#[derive(Clone, Copy, PartialEq, Eq)]
 pub struct Queue {
     pub held: QueueRecord,
 }
 
 // A TSB descriptor as it is kept: all of it but the reserved word.
-#[derive(Clone, Copy)]
+#[derive(Clone, Copy, PartialEq, Eq)]
 pub struct Tsb {
     pub index: u16,
     pub associativity: u16,
@@ -91,14 +77,14 @@ pub struct Tsb {
 }
 
 // A TSB list.
-#[derive(Clone, Copy)]
+#[derive(Clone, Copy, PartialEq, Eq)]
 pub struct Tsbs {
     pub tsbs: u8,
     pub tsb: [Tsb; TSBS],
 }
 
 // Queues 0x3c to 0x3f, the TSB lists for context 0 and the other contexts, and the statistics address, 0 where there is none.
-#[derive(Clone, Copy)]
+#[derive(Clone, Copy, PartialEq, Eq)]
 pub struct Cpu {
     pub queue: [Queue; QUEUES],
     pub ctx0: Tsbs,
@@ -107,7 +93,7 @@ pub struct Cpu {
 }
 
 // An interrupt source. enabled is 0 or 1; state is 0 idle, 1 received, 2 delivered; target is the cpuid that it interrupts.
-#[derive(Clone, Copy)]
+#[derive(Clone, Copy, PartialEq, Eq)]
 pub struct Source {
     pub devhandle: u32,
     pub devino: u8,
@@ -119,7 +105,7 @@ pub struct Source {
 }
 
 // The negotiated major number of each API group (0, 1, 2 and 0x200), 0 where none is. The minor is always 0.
-#[derive(Clone, Copy)]
+#[derive(Clone, Copy, PartialEq, Eq)]
 pub struct Versions {
     pub sun4v: u8,
     pub core: u8,
@@ -128,7 +114,7 @@ pub struct Versions {
 }
 
 // All that a guest's calls can read or change, extents aside.
-#[derive(Clone, Copy)]
+#[derive(Clone, Copy, PartialEq, Eq)]
 pub struct Plant {
     pub versions: Versions,
     pub cpus: u8,
@@ -137,20 +123,20 @@ pub struct Plant {
     pub source: [Source; SOURCES],
 }
 
-#[derive(Clone, Copy)]
+#[derive(Clone, Copy, PartialEq, Eq)]
 pub struct Guest {
     pub extents: Extents,
     pub plant: Plant,
 }
 
-#[derive(Clone, Copy)]
+#[derive(Clone, Copy, PartialEq, Eq)]
 pub struct Tables {
     pub guests: u8,
     pub guest: [Guest; GUESTS],
 }
 
 // A call: its arguments are 0 where a caller has none to give.
-#[derive(Clone, Copy)]
+#[derive(Clone, Copy, PartialEq, Eq)]
 pub struct Call {
     pub guest: u64,
     pub cpu: u64,
@@ -163,7 +149,7 @@ pub struct Call {
     pub arg4: u64,
 }
 
-#[derive(Clone, Copy)]
+#[derive(Clone, Copy, PartialEq, Eq)]
 pub struct HeadWrite {
     pub guest: u64,
     pub cpu: u64,
@@ -171,19 +157,19 @@ pub struct HeadWrite {
     pub value: u64,
 }
 
-#[derive(Clone, Copy)]
+#[derive(Clone, Copy, PartialEq, Eq)]
 pub struct Device {
     pub devhandle: u64,
     pub devino: u64,
 }
 
-#[derive(Clone, Copy)]
+#[derive(Clone, Copy, PartialEq, Eq)]
 pub struct LoadAt {
     pub guest: u64,
     pub address: u64,
 }
 
-#[derive(Clone, Copy)]
+#[derive(Clone, Copy, PartialEq, Eq)]
 pub struct StoreAt {
     pub guest: u64,
     pub address: u64,
@@ -191,7 +177,7 @@ pub struct StoreAt {
 }
 
 // A hit in a TSB: side is 0 instruction, 1 data; context is 0 for context zero, 1 for another; index is the page size's.
-#[derive(Clone, Copy)]
+#[derive(Clone, Copy, PartialEq, Eq)]
 pub struct TsbHit {
     pub guest: u64,
     pub cpu: u64,
@@ -201,7 +187,7 @@ pub struct TsbHit {
     pub ticks: u64,
 }
 
-#[derive(Clone, Copy)]
+#[derive(Clone, Copy, PartialEq, Eq)]
 pub enum Event {
     Call(Call),
     Head(HeadWrite),
@@ -212,9 +198,8 @@ pub enum Event {
 }
 
 // The API groups 0, 1, 2 and 0x200.
-#[derive(Clone, Copy)]
+#[derive(Clone, Copy, PartialEq, Eq)]
 pub enum Group {
-    Unknown,
     Sun4v,
     Core,
     Interrupt,
@@ -222,7 +207,7 @@ pub enum Group {
 }
 
 // What a call asks of a source.
-#[derive(Clone, Copy)]
+#[derive(Clone, Copy, PartialEq, Eq)]
 pub enum SourceCall {
     GetEnabled,
     SetEnabled,
@@ -233,7 +218,7 @@ pub enum SourceCall {
 }
 
 // What a call asks of a source that supports cookies.
-#[derive(Clone, Copy)]
+#[derive(Clone, Copy, PartialEq, Eq)]
 pub enum CookieCall {
     GetCookie,
     SetCookie,
@@ -241,9 +226,8 @@ pub enum CookieCall {
 }
 
 // The calls, by the papers' names. Sysino are 0xa1 to 0xa6, and Cookie 0xa7 to 0xae.
-#[derive(Clone, Copy)]
+#[derive(Clone, Copy, PartialEq, Eq)]
 pub enum Function {
-    Unknown,
     SetVersion,
     GetVersion,
     CpuQconf,
@@ -261,15 +245,8 @@ pub enum Function {
     Cookie(CookieCall),
 }
 
-// The guest that an event belongs to.
-#[derive(Clone, Copy)]
-pub enum Owner {
-    Nobody,
-    Guest(u64),
-}
-
 // Every refusal of an event, by the papers' name where they have one.
-#[derive(Clone, Copy)]
+#[derive(Clone, Copy, PartialEq, Eq)]
 pub enum Refusal {
     ENOCPU,
     ENORADDR,
@@ -287,7 +264,7 @@ pub enum Refusal {
 }
 
 // Done with no value, with value 1, or with values 1 and 2; or refused.
-#[derive(Clone, Copy)]
+#[derive(Clone, Copy, PartialEq, Eq)]
 pub enum Answer {
     Done,
     One(u64),
@@ -297,7 +274,7 @@ pub enum Answer {
 
 // Every refusal of an image: that bits are missing, or where the first fault is. That is the guest, and of an extent or a source
 // its position there; behind the last guest it is the number of guests.
-#[derive(Clone, Copy)]
+#[derive(Clone, Copy, PartialEq, Eq)]
 pub enum ImageRefusal {
     ImageShort,
     HeaderOrCount(u8),
@@ -308,40 +285,25 @@ pub enum ImageRefusal {
     FillOrBehind(u8),
 }
 
-// The answer of loading.
-#[derive(Clone, Copy)]
-pub enum Loading {
-    Accepted,
-    Refused(ImageRefusal),
-}
-
 // What loading an image gives.
-#[derive(Clone, Copy)]
+#[derive(Clone, Copy, PartialEq, Eq)]
 pub struct Loaded {
-    pub answer: Loading,
+    pub answer: Result<(), ImageRefusal>,
     pub tables: Tables,
 }
 
 // Every refusal of writing an image.
-#[derive(Clone, Copy)]
+#[derive(Clone, Copy, PartialEq, Eq)]
 pub enum WriteRefusal {
     BadTables,
     NoGuest,
     ShortBuffer,
 }
 
-// The answer of writing: the length of the image, or why there is none.
-#[derive(Clone, Copy)]
-pub enum Writing {
-    Written(usize),
-    Refused(WriteRefusal),
-}
-
 // What a line of a plan adds to the tables: a guest of so many cpus; an extent or a source of the last guest; or nothing, as it is no such
 // line or has a number that a table cannot hold.
-#[derive(Clone, Copy)]
+#[derive(Clone, Copy, PartialEq, Eq)]
 pub enum PlanLine {
-    Bad,
     Guest(u8),
     Extent(Extent),
     Source(Source),
@@ -349,24 +311,24 @@ pub enum PlanLine {
 
 // How far the desk's program is with its lines: before the first; a plan; an image and what loading it answered; or a line that is none,
 // by its number.
-#[derive(Clone, Copy)]
+#[derive(Clone, Copy, PartialEq, Eq)]
 pub enum Stage {
     Fresh,
     Drawing,
-    Loaded(Loading),
+    Loaded(Result<(), ImageRefusal>),
     Bad(usize),
 }
 
-#[derive(Clone, Copy)]
+#[derive(Clone, Copy, PartialEq, Eq)]
 pub struct Desk {
     pub stage: Stage,
     pub tables: Tables,
 }
 
 // What is told of a line of the session: that it is bad, the answer of its image, or the answer to its event.
-#[derive(Clone, Copy)]
+#[derive(Clone, Copy, PartialEq, Eq)]
 pub enum Reply {
     Bad,
-    Image(Loading),
+    Image(Result<(), ImageRefusal>),
     Event(Answer),
 }
