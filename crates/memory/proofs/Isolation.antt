@@ -1,4 +1,5 @@
 -- Isolation: what a guest writes changes no byte outside the host pages of its own extents, so nothing that another guest sees.
+use Rattle.std.proofs.Common.{Option, Some, None}
 use mathlib.Core.Path.{◌≡◌, refl, sym, ap, ◌∙◌, fun_ext}
 use mathlib.Core.Bool.{Bool, true, false, ◌||◌, true≢false, false≢true}
 use mathlib.Core.List.{List, [], ◌∷◌}
@@ -9,7 +10,6 @@ use lib.Seq.{get_or-set_other}
 use borrow.Author.Tests.{le-leb, leb-true, ltb-false}
 use Rattle.rules.specs.declared.Extent.{Extent}
 use Rattle.rules.specs.declared.Host.{Host}
-use Rattle.rules.specs.declared.Place.{Place}
 use Rattle.rules.specs.Limits.{page_size}
 use Rattle.rules.specs.Image.{share}
 use Rattle.rules.specs.Real.{low, high, holds, host_offset, valid, located, byte_there, byte_at, sight_of, put_there, put_bytes, Write, apply}
@@ -43,12 +43,12 @@ held_within x b h p q =
     let g : (host_offset x (record { 0 = b })).0 ≡ h.0 = ap (λ (r : Host). r.0) q in
     within_made x h.0 (omega arith) (omega arith)
 
-pub located_owns : (es : List Extent) (b : ℕ) (h : Host) → located es b ≡ Place.At h → owns es h.0 ≡ true
+pub located_owns : (es : List Extent) (b : ℕ) (h : Host) → located es b ≡ Some h → owns es h.0 ≡ true
 unfolding owns
 located_owns [] b h e = absurd (nowhere b h e)
 located_owns (x ∷ xs) b h e = go (located_owns xs b h) (lies x xs b h e)
   where
-    go : (located xs b ≡ Place.At h → owns xs h.0 ≡ true) → Lies x xs b h → (within x h.0 || owns xs h.0) ≡ true
+    go : (located xs b ≡ Some h → owns xs h.0 ≡ true) → Lies x xs b h → (within x h.0 || owns xs h.0) ≡ true
     go ih (here p q) = rw (held_within x b h p q)
     go ih (later p q) = or-true (within x h.0) _ (ih q)
 
@@ -57,9 +57,9 @@ module _ (es : List Extent) (k : ℕ) (no : owns es k ≡ false) where
   there_other : (m : List ℕ) (a v : ℕ) → cell (put_there m (located es a) v) k ≡ cell m k
   there_other m a v = go (located es a) refl
     where
-      go : (p : Place) → located es a ≡ p → cell (put_there m p v) k ≡ cell m k
-      go Place.Nowhere e = refl
-      go (Place.At h) e = get_or-set_other m h.0 k v 0 (λ q. true≢false (sym (located_owns es a h e) ∙ ap (owns es) (sym q) ∙ no))
+      go : (p : Option Host) → located es a ≡ p → cell (put_there m p v) k ≡ cell m k
+      go None e = refl
+      go (Some h) e = get_or-set_other m h.0 k v 0 (λ q. true≢false (sym (located_owns es a h e) ∙ ap (owns es) (sym q) ∙ no))
 
   put_other : (vs m : List ℕ) (a : ℕ) → cell (put_bytes es m a vs) k ≡ cell m k
   unfolding put_bytes
@@ -77,9 +77,9 @@ module _ (es fs : List Extent) (s : Strangers es fs) (ws : List Write) (m : List
   unfolding byte_at
   unseen b = go (located fs b) refl
     where
-      go : (p : Place) → located fs b ≡ p → byte_there (apply es m ws) p ≡ byte_there m p
-      go Place.Nowhere e = refl
-      go (Place.At h) e = apply_other es h.0 (s h.0 (located_owns fs b h e)) ws m
+      go : (p : Option Host) → located fs b ≡ p → byte_there (apply es m ws) p ≡ byte_there m p
+      go None e = refl
+      go (Some h) e = apply_other es h.0 (s h.0 (located_owns fs b h e)) ws m
 
   pub sight_unmoved : sight_of fs (apply es m ws) ≡ sight_of fs m
   sight_unmoved = ap (λ (see : ℕ → ℕ). record { valid = valid fs; byte = see }) (fun_ext (λ b. unseen b))

@@ -1,4 +1,5 @@
 -- How far the addresses of a guest reach: a range is valid where every one of its bytes lies in some extent.
+use Rattle.std.proofs.Common.{Some, None}
 use mathlib.Core.Path.{◌≡◌, refl, sym, ap, ◌∙◌}
 use mathlib.Core.Bool.{Bool, true, false, cond, true≢false}
 use mathlib.Core.List.{List, [], ◌∷◌}
@@ -9,7 +10,6 @@ use lib.Dec.{leb, ltb}
 use borrow.Author.Tests.{le-leb, lt-leb, leb-true, leb-false, ltb-true, ltb-false}
 use Rattle.rules.specs.declared.Extent.{Extent}
 use Rattle.rules.specs.declared.Host.{Host}
-use Rattle.rules.specs.declared.Place.{Place}
 use Rattle.rules.specs.Real.{low, high, holds, host_offset, located, reach, valid}
 use Rattle.rules.proofs.Tests.{leb_same}
 use Rattle.memory.specs.Cells.{somewhere}
@@ -44,7 +44,7 @@ reach_passes [] a b l h = absurd (omega arith)
 reach_passes (x ∷ xs) a b l h = go (λ k. reach_passes xs (cond (holds x a) (high x) a) b k h) (holds x b) refl (holds x a) refl
   where
     go : (cond (holds x a) (high x) a ≤ b → somewhere (located xs b) ≡ true) → (t : Bool) → holds x b ≡ t → (s : Bool) → holds x a ≡ s
-        → somewhere (cond t (Place.At (host_offset x (record { 0 = b }))) (located xs b)) ≡ true
+        → somewhere (cond t (Some (host_offset x (record { 0 = b }))) (located xs b)) ≡ true
     go ih true q s p = refl
     go ih false q true p = ih (rw p (past_own x a b l p q))
     go ih false q false p = ih (rw p l)
@@ -128,16 +128,16 @@ unfolding reach located
 held_passed [] a e = absurd (true≢false (sym e))
 held_passed (x ∷ xs) a e = go (held_passed xs a) (holds x a) refl e
   where
-    go : (somewhere (located xs a) ≡ true → a < reach xs a) → (t : Bool) → holds x a ≡ t → somewhere (cond t (Place.At (host_offset x (record { 0 = a }))) (located xs a)) ≡ true → a < reach xs (cond t (high x) a)
+    go : (somewhere (located xs a) ≡ true → a < reach xs a) → (t : Bool) → holds x a ≡ t → somewhere (cond t (Some (host_offset x (record { 0 = a }))) (located xs a)) ≡ true → a < reach xs (cond t (high x) a)
     go ih true p q = omega (arith, holds_high x a p, reach_from xs (high x))
     go ih false p q = ih q
 
 module _ (es : List Extent) (a : ℕ) where
-  pub at_valid : (h : Host) → located es a ≡ Place.At h → true ≡ valid es a 1
+  pub at_valid : (h : Host) → located es a ≡ Some h → true ≡ valid es a 1
   unfolding valid
   at_valid h e = sym (le-leb (a + 1) (reach es a) (omega (arith, held_passed es a (ap somewhere e))))
 
-  pub nowhere_valid : located es a ≡ Place.Nowhere → false ≡ valid es a 1
+  pub nowhere_valid : located es a ≡ None → false ≡ valid es a 1
   nowhere_valid e = go (valid es a 1) refl
     where
       go : (t : Bool) → valid es a 1 ≡ t → false ≡ t

@@ -1,4 +1,5 @@
 -- What a plant sees after its own writes: what it saw, with the bytes of the writes over it. No host page has a part in that.
+use Rattle.std.proofs.Common.{Option, Some, None}
 use mathlib.Core.Path.{◌≡◌, refl, sym, ap, ◌∙◌, fun_ext}
 use mathlib.Core.Bool.{Bool, true, false, ◌&&◌, cond, and-false, and-true}
 use mathlib.Core.List.{List, [], ◌∷◌}
@@ -11,7 +12,6 @@ use lib.Seq.{get_or-set_same, get_or-set_other}
 use borrow.Author.Tests.{eqb-true, eqb-false, eq-eqb, ne_eqb}
 use Rattle.rules.specs.declared.Extent.{Extent}
 use Rattle.rules.specs.declared.Host.{Host}
-use Rattle.rules.specs.declared.Place.{Place}
 use Rattle.rules.specs.Real.{host_offset, valid, located, byte_there, byte_at, Sight, sight_of, put_there, put_bytes, Write, apply, number_of, word_bytes}
 use Rattle.memory.specs.Cells.{cell}
 use Rattle.memory.specs.Ready.{Long}
@@ -36,11 +36,11 @@ after s [] = s
 after s (w ∷ ws) = after (over s w.at w.bytes) ws
 
 -- two addresses that lie at one offset are one
-one_place : (es : List Extent) (a b : ℕ) (h : Host) → Distinct es → located es a ≡ Place.At h → located es b ≡ Place.At h → a ≡ b
+one_place : (es : List Extent) (a b : ℕ) (h : Host) → Distinct es → located es a ≡ Some h → located es b ≡ Some h → a ≡ b
 one_place [] a b h d p q = absurd (nowhere a h p)
 one_place (x ∷ xs) a b h d p q = go (λ u w. one_place xs a b h d.1 u w) (lies x xs a h p) (lies x xs b h q)
   where
-    go : (located xs a ≡ Place.At h → located xs b ≡ Place.At h → a ≡ b) → Lies x xs a h → Lies x xs b h → a ≡ b
+    go : (located xs a ≡ Some h → located xs b ≡ Some h → a ≡ b) → Lies x xs a h → Lies x xs b h → a ≡ b
     go ih (here u w) (here r s) =
         let e : (host_offset x (record { 0 = a })).0 ≡ (host_offset x (record { 0 = b })).0 = ap (λ (g : Host). g.0) (w ∙ sym s) in
         omega (arith, holds_low x a u, holds_low x b r)
@@ -50,27 +50,27 @@ one_place (x ∷ xs) a b h d p q = go (λ u w. one_place xs a b h d.1 u w) (lies
 
 module _ (es : List Extent) (d : Distinct es) where
   -- the byte at b after a byte was put at an address a that lies at h; t is whether b is a, and q where b lies
-  own_put : (m : List ℕ) (a v b : ℕ) (h : Host) → located es a ≡ Place.At h → h.0 < length m → (t : Bool) → eqb b a ≡ t → (q : Place) → located es b ≡ q
+  own_put : (m : List ℕ) (a v b : ℕ) (h : Host) → located es a ≡ Some h → h.0 < length m → (t : Bool) → eqb b a ≡ t → (q : Option Host) → located es b ≡ q
       → byte_there (set m h.0 v) q ≡ cond t v (byte_there m q)
-  own_put m a v b h p l true e Place.Nowhere q =
+  own_put m a v b h p l true e None q =
       let i : b ≡ a = eqb-true b a e in
       let z : ◌≡◌ {A = ℕ} 0 1 = cc in
       absurd (omega arith)
-  own_put m a v b h p l true e (Place.At g) q =
+  own_put m a v b h p l true e (Some g) q =
       let i : b ≡ a = eqb-true b a e in
       let z : h ≡ g = cc in
       rw (← z) (get_or-set_same m h.0 v 0 l)
-  own_put m a v b h p l false e Place.Nowhere q = refl
-  own_put m a v b h p l false e (Place.At g) q =
-      get_or-set_other m h.0 g.0 v 0 (λ z. eqb-false b a e (one_place es b a h d (q ∙ (λ i. Place.At (record { 0 = z i }))) p))
+  own_put m a v b h p l false e None q = refl
+  own_put m a v b h p l false e (Some g) q =
+      get_or-set_other m h.0 g.0 v 0 (λ z. eqb-false b a e (one_place es b a h d (q ∙ (λ i. Some (record { 0 = z i }))) p))
 
   own_byte : (m : List ℕ) → Long es (length m) → (a v b : ℕ) → byte_at es (put_there m (located es a) v) b ≡ cond (eqb b a && valid es a 1) v (byte_at es m b)
   unfolding byte_at
   own_byte m l a v b = go (located es a) refl
     where
-      go : (p : Place) → located es a ≡ p → byte_there (put_there m p v) (located es b) ≡ cond (eqb b a && valid es a 1) v (byte_there m (located es b))
-      go Place.Nowhere e = rw (← nowhere_valid es a e, and-false)
-      go (Place.At h) e =
+      go : (p : Option Host) → located es a ≡ p → byte_there (put_there m p v) (located es b) ≡ cond (eqb b a && valid es a 1) v (byte_there m (located es b))
+      go None e = rw (← nowhere_valid es a e, and-false)
+      go (Some h) e =
           rw (← at_valid es a h e, and-true)
           (own_put m a v b h e (omega (arith, room es a h (length m) l e)) (eqb b a) refl (located es b) refl)
 

@@ -1,4 +1,6 @@
 -- Lists of writes: done in two parts, and the length of the memory, which they keep.
+use Rattle.std.proofs.Common.{Option, Some, None}
+use Rattle.rules.specs.declared.Host.{Host}
 use mathlib.Core.Path.{◌≡◌, refl, ◌∙◌}
 use mathlib.Core.List.{List, [], ◌∷◌, ◌++◌}
 use Prim.Native.Nat.{ℕ, suc, ◌+◌}
@@ -6,7 +8,6 @@ use native.Mathlib.Nat.{add-zero}
 use native.Mathlib.Omega.{arith}
 use lib.ListN.{length, length-set}
 use Rattle.rules.specs.declared.Extent.{Extent}
-use Rattle.rules.specs.declared.Place.{Place}
 use Rattle.rules.specs.Real.{located, put_there, put_bytes, Write, apply}
 
 module _ (es : List Extent) where
@@ -24,9 +25,9 @@ module _ (es : List Extent) where
       rw e (put_append us vs (put_there m (located es a) u) (suc a))
 
   -- the memory's length
-  pub there_length : (m : List ℕ) (p : Place) (v : ℕ) → length (put_there m p v) ≡ length m
-  there_length m Place.Nowhere v = refl
-  there_length m (Place.At h) v = length-set m h.0 v
+  pub there_length : (m : List ℕ) (p : Option Host) (v : ℕ) → length (put_there m p v) ≡ length m
+  there_length m None v = refl
+  there_length m (Some h) v = length-set m h.0 v
 
   pub put_length : (vs m : List ℕ) (a : ℕ) → length (put_bytes es m a vs) ≡ length m
   unfolding put_bytes

@@ -1,7 +1,7 @@
 -- The host's memory by offset, and a single write of a guest.
-use Rattle.std.specs.Prelude.{Bool, true, false, ◌&&◌, ◌||◌, List, [], ◌∷◌, ℕ, ◌+◌, ◌*◌, leb, get_or}
+use Rattle.rules.specs.declared.Host.{Host}
+use Rattle.std.specs.Prelude.{Bool, true, false, ◌&&◌, ◌||◌, List, [], ◌∷◌, ℕ, ◌+◌, ◌*◌, leb, get_or, Option, Some, None}
 use Rattle.rules.specs.declared.Extent.{Extent}
-use Rattle.rules.specs.declared.Place.{Place}
 use Rattle.rules.specs.Limits.{page_size}
 use Rattle.rules.specs.Real.{Write}
 
@@ -18,9 +18,9 @@ owns [] k = false
 owns (x ∷ xs) k = within x k || owns xs k
 
 -- a real address lies somewhere
-abbrev pub somewhere : Place → Bool
-somewhere Place.Nowhere = false
-somewhere (Place.At h) = true
+abbrev pub somewhere : Option Host → Bool
+somewhere None = false
+somewhere (Some h) = true
 
 -- the list of one write
 abbrev pub one : ℕ → List ℕ → List Write
