@@ -1,5 +1,5 @@
 -- Laws of bits and fields: how a field grows by a bit, and what each answer is and tells.
-use Rattle.std.specs.Prelude.{if◌then◌else◌}
+use Rattle.std.proofs.Common.{if◌then◌else◌, Option, Some, None}
 use borrow.Author.Tests.{le-leb, lt-leb, leb-true, leb-false}
 use mathlib.Core.Bool.{Bool, true, false, ◌&&◌}
 use mathlib.Core.Path.{◌≡◌, refl, sym, ◌∙◌}
@@ -12,8 +12,6 @@ use lib.ListN.{length, get_or}
 use lib.Dec.{leb}
 use lib.Pow.{pow_mono}
 use Rattle.rules.specs.Bits.{bit_at, field_at, reaches}
-use Rattle.bits.specs.declared.Field.{Field}
-use Rattle.bits.specs.declared.Field.TheVariants.{Value, Missing}
 use Rattle.bits.specs.Field.{field_of}
 
 -- a bit, by its byte and any place that has the same remainder by 8
@@ -44,34 +42,34 @@ field_end s at k n v e u w =
     rw q at e
 
 -- the three answers
-pub field_wide : (s : List ℕ) (at n : ℕ) → 28 < n → Missing ≡ field_of s at n
+pub field_wide : (s : List ℕ) (at n : ℕ) → 28 < n → None ≡ field_of s at n
 unfolding field_of
 field_wide s at n h = simp (lt-leb n 28 h)
 
-pub field_missing : (s : List ℕ) (at n : ℕ) → n ≤ 28 → 8 * length s < at + n → Missing ≡ field_of s at n
+pub field_missing : (s : List ℕ) (at n : ℕ) → n ≤ 28 → 8 * length s < at + n → None ≡ field_of s at n
 unfolding field_of
 field_missing s at n h l = simp (le-leb n 28 h, lt-leb (at + n) (8 * length s) l)
 
-pub field_value : (s : List ℕ) (at n v : ℕ) → n ≤ 28 → at + n ≤ 8 * length s → v ≡ field_at s at n → Value v ≡ field_of s at n
+pub field_value : (s : List ℕ) (at n v : ℕ) → n ≤ 28 → at + n ≤ 8 * length s → v ≡ field_at s at n → Some v ≡ field_of s at n
 unfolding field_of
 field_value s at n v h l e = simp (le-leb n 28 h, le-leb (at + n) (8 * length s) l) (cc)
 
 -- what an answer tells
-was_missing : (t u : Bool) (v : ℕ) → Missing ≡ (if t && u then Value v else Missing) → t ≡ true → u ≡ false
+was_missing : (t u : Bool) (v : ℕ) → None ≡ (if t && u then Some v else None) → t ≡ true → u ≡ false
 was_missing true true v e h = cc
 was_missing true false v e h = refl
 was_missing false u v e h = cc
 
-was_value : (t u : Bool) (v w : ℕ) → Value w ≡ (if t && u then Value v else Missing) → (u ≡ true) × (w ≡ v)
+was_value : (t u : Bool) (v w : ℕ) → Some w ≡ (if t && u then Some v else None) → (u ≡ true) × (w ≡ v)
 was_value true true v w e = (refl, cc)
 was_value true false v w e = (cc, cc)
 was_value false u v w e = (cc, cc)
 
-pub missing_tells : (s : List ℕ) (at n : ℕ) (f : Field) → n ≤ 28 → f ≡ field_of s at n → f ≡ Missing → 8 * length s < at + n
+pub missing_tells : (s : List ℕ) (at n : ℕ) (f : Option ℕ) → n ≤ 28 → f ≡ field_of s at n → f ≡ None → 8 * length s < at + n
 unfolding field_of
 missing_tells s at n f h e m = leb-false _ _ (was_missing (leb n 28) (reaches s (at + n)) (field_at s at n) (sym m ∙ e) (le-leb n 28 h))
 
-pub value_tells : (s : List ℕ) (at n : ℕ) (f : Field) (v : ℕ) → f ≡ field_of s at n → f ≡ Value v → (at + n ≤ 8 * length s) × (v ≡ field_at s at n)
+pub value_tells : (s : List ℕ) (at n : ℕ) (f : Option ℕ) (v : ℕ) → f ≡ field_of s at n → f ≡ Some v → (at + n ≤ 8 * length s) × (v ≡ field_at s at n)
 unfolding field_of
 value_tells s at n f v e m =
     let w = was_value (leb n 28) (reaches s (at + n)) (field_at s at n) v (sym m ∙ e) in

@@ -9,13 +9,6 @@ mod put;
 
 pub use put::put_field;
 
-// A field's number; Missing where the bytes end before the field's last bit, or the field is wider than 28 bits.
-#[derive(Clone, Copy)]
-pub enum Field {
-    Value(u32),
-    Missing,
-}
-
 // The place in its byte of the bit at `at`.
 fn in_byte(at: u64) -> u32
     ensures { result ≡ at % 8 }
@@ -56,17 +49,17 @@ pub fn number_at(s: &[u8], at: u64, n: u32) -> u32
     v
 }
 
-// The n bits from bit `at` on. The bytes needed are counted from the first one: the sum `at + n` could wrap.
-pub fn field_at(s: &[u8], at: u64, n: u32) -> Field
+// The n bits from bit `at` on; None where the bytes end before the last of them, or they are more than 28. The bytes needed are counted from the first one: the sum `at + n` could wrap.
+pub fn field_at(s: &[u8], at: u64, n: u32) -> Option<u32>
     ensures { result ≡ field_of s.now at n }
 {
     if 28 < n {
-        return Field::Missing;
+        return None;
     }
     let first = (at >> 3) as usize;
     let need = ((in_byte(at) + n + 7) >> 3) as usize;
     if s.len() < first + need {
-        return Field::Missing;
+        return None;
     }
-    Field::Value(number_at(s, at, n))
+    Some(number_at(s, at, n))
 }
