@@ -1,4 +1,5 @@
 -- From the rule on tables, a test, to the facts.
+use Rattle.std.proofs.Common.{Ok}
 use mathlib.Core.Path.{◌≡◌}
 use mathlib.Core.Bool.{Bool, true, ◌&&◌}
 use Prim.Native.Nat.{ℕ, ◌*◌, ◌/◌, ◌%◌, ◌≤◌, ◌<◌}
@@ -21,7 +22,6 @@ use Rattle.rules.proofs.Scan.{all_at}
 use Rattle.rules.proofs.Tests.{and_left, and_right}
 use Rattle.records.specs.Sound.{RingSound, RecordSound, BufferSound}
 use Rattle.records.specs.Verdict.{verdict_of}
-use Rattle.records.specs.declared.Verdict.TheVariants.{Right}
 use Rattle.records.proofs.Told.{told_right, told_then, range_told, entries_least, entries_most}
 
 -- a list that is right: its length, and what holds at each place that is there
@@ -45,7 +45,7 @@ module _ (v : ℕ → ℕ → Bool) (ring : Ring) (e : ring_right v ring ≡ tru
   unfolding ring_right
   accepted = and_right (eqb (ring.size % 64) 0) _ (and_left _ _ e)
 
-  right_is : verdict_of (new_ring v ring.base (ring.size / 64)) ≡ Right
+  right_is : verdict_of (new_ring v ring.base (ring.size / 64)) ≡ Ok tt
   right_is = told_right _ accepted
 
   size_is : 64 * (ring.size / 64) ≡ ring.size
@@ -87,7 +87,7 @@ cpu_record v cpu q e h = all_at (λ j. record_right v (queue_at cpu j)) 4 q (and
 pub buffer_sound : (v : ℕ → ℕ → Bool) (address : ℕ) → accepts (new_statistics v address) ≡ true → BufferSound v address
 unfolding new_statistics
 buffer_sound v address e some =
-    let told : verdict_of (new_statistics v address) ≡ Right = told_right _ e in
+    let told : verdict_of (new_statistics v address) ≡ Ok tt = told_right _ e in
     let aligned : eqb (address % 64) 0 ≡ true = told_then _ _ _ (rw (ne_eqb address 0 some) at told) in
     told_then _ _ _ (rw (ne_eqb address 0 some, aligned) at told)
 

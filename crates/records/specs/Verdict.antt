@@ -1,14 +1,11 @@
--- What the code tells of a ruling.
-use Rattle.std.specs.Prelude.{Bool, true, false}
+-- What the code tells of a ruling: that a record is right, or the status that refuses it.
+use Rattle.std.specs.Prelude.{Result, Ok, Err}
+use Rattle.rules.specs.declared.Refusal.{Refusal}
 use Rattle.rules.specs.Rulings.{Ruling, refused, granted}
-use Rattle.records.specs.declared.Verdict.{Verdict as Told}
-use Rattle.records.specs.declared.Verdict.TheVariants.{Right, Refused}
 
-unfoldable pub verdict_of : {A : Type 0} → Ruling A → Told
-verdict_of (refused r) = Refused r
-verdict_of (granted a) = Right
+abbrev pub Verdict : Type 0
+Verdict = Result Unit Refusal
 
--- the rule accepts
-abbrev pub is_right : Told → Bool
-is_right Right = true
-is_right (Refused r) = false
+unfoldable pub verdict_of : {A : Type 0} → Ruling A → Verdict
+verdict_of (refused r) = Err r
+verdict_of (granted a) = Ok tt

@@ -12,27 +12,10 @@ ghost use Rattle.rules.specs.Scan.{power_of_two◌from◌to◌};
 ghost use Rattle.rules.specs.Queues.{new_ring};
 ghost use Rattle.rules.specs.Memory.{new_statistics};
 ghost use Rattle.rules.specs.Tsb.{is_page_index, ◌is_inside◌, judged_tsb};
-ghost use Rattle.records.specs.Verdict.{verdict_of, is_right};
+ghost use Rattle.records.specs.Verdict.{verdict_of};
 ghost use Rattle.records.specs.Masks.{mask_bit_right, lowest_index};
 
 use rules::{Extents, Refusal, Tsb};
-
-// Whether a record is right, or the status that refuses it.
-#[derive(Clone, Copy)]
-pub enum Verdict {
-    Right,
-    Refused(Refusal),
-}
-
-// Whether a verdict is that a record is right.
-pub fn is_right(verdict: Verdict) -> bool
-    ensures { result ≡ is_right verdict }
-{
-    match verdict {
-        Verdict::Right => true,
-        Verdict::Refused(_) => false,
-    }
-}
 
 // The number of entries of a ring: a power of two from 2 to 256.
 fn ring_entries(n: u64) -> bool
@@ -66,38 +49,38 @@ fn tsb_entries(n: u32) -> bool
 }
 
 // A ring of n entries from base on, as 0x14 accepts it.
-pub fn judge_ring(e: Extents, base: u64, n: u64) -> Verdict
+pub fn judge_ring(e: Extents, base: u64, n: u64) -> Result<(), Refusal>
     requires { e.extents ≤ extent_limit }
     ensures { result ≡ verdict_of (new_ring (valid (present e)) base n) }
 {
     if !ring_entries(n) {
-        return Verdict::Refused(Refusal::EINVAL);
+        return Err(Refusal::EINVAL);
     }
     let size = 64 * n;
     if base % size != 0 {
-        return Verdict::Refused(Refusal::EBADALIGN);
+        return Err(Refusal::EBADALIGN);
     }
     if !memory::range_valid(e, base, size) {
-        return Verdict::Refused(Refusal::ENORADDR);
+        return Err(Refusal::ENORADDR);
     }
-    Verdict::Right
+    Ok(())
 }
 
 // A statistics address, as 0x102 accepts it.
-pub fn judge_statistics(e: Extents, address: u64) -> Verdict
+pub fn judge_statistics(e: Extents, address: u64) -> Result<(), Refusal>
     requires { e.extents ≤ extent_limit }
     ensures { result ≡ verdict_of (new_statistics (valid (present e)) address) }
 {
     if address == 0 {
-        return Verdict::Right;
+        return Ok(());
     }
     if address % 64 != 0 {
-        return Verdict::Refused(Refusal::EBADALIGN);
+        return Err(Refusal::EBADALIGN);
     }
     if !memory::range_valid(e, address, 512) {
-        return Verdict::Refused(Refusal::ENORADDR);
+        return Err(Refusal::ENORADDR);
     }
-    Verdict::Right
+    Ok(())
 }
 
 // Page indexes 0, 1, 3 and 5.
@@ -152,37 +135,37 @@ fn is_lowest_index(mask: u32, index: u16) -> bool
 }
 
 // A TSB descriptor, as 0x20 and 0x21 accept it.
-pub fn judge_tsb(e: Extents, t: Tsb) -> Verdict
+pub fn judge_tsb(e: Extents, t: Tsb) -> Result<(), Refusal>
     requires { e.extents ≤ extent_limit }
     ensures { result ≡ verdict_of (judged_tsb (valid (present e)) t) }
 {
     if !is_page_index(t.index as u64) {
-        return Verdict::Refused(Refusal::EBADPGSZ);
+        return Err(Refusal::EBADPGSZ);
     }
     if t.mask == 0 {
-        return Verdict::Refused(Refusal::EBADPGSZ);
+        return Err(Refusal::EBADPGSZ);
     }
     if !inside_mask(t.mask) {
-        return Verdict::Refused(Refusal::EBADPGSZ);
+        return Err(Refusal::EBADPGSZ);
     }
     if t.associativity != 1 {
-        return Verdict::Refused(Refusal::EBADTSB);
+        return Err(Refusal::EBADTSB);
     }
     if !tsb_entries(t.entries) {
-        return Verdict::Refused(Refusal::EBADTSB);
+        return Err(Refusal::EBADTSB);
     }
     if t.context != 0 {
-        return Verdict::Refused(Refusal::EINVAL);
+        return Err(Refusal::EINVAL);
     }
     if !is_lowest_index(t.mask, t.index) {
-        return Verdict::Refused(Refusal::EINVAL);
+        return Err(Refusal::EINVAL);
     }
     let size = 16 * (t.entries as u64);
     if t.base % size != 0 {
-        return Verdict::Refused(Refusal::EBADALIGN);
+        return Err(Refusal::EBADALIGN);
     }
     if !memory::range_valid(e, t.base, size) {
-        return Verdict::Refused(Refusal::ENORADDR);
+        return Err(Refusal::ENORADDR);
     }
-    Verdict::Right
+    Ok(())
 }
