@@ -12,7 +12,7 @@ ghost use Rattle.partition.specs.Rules.{holds_at, rule_of};
 
 use memory::{greatest, least};
 use records::blank;
-use rules::{EXTENTS, Extent, Extents, Found, GUESTS, SOURCES, Tables};
+use rules::{EXTENTS, Extent, Extents, GUESTS, SOURCES, Tables};
 
 // Real pages have 28 bits.
 const REAL_PAGES: u64 = 0x1000_0000;
@@ -88,7 +88,7 @@ pub fn ascend(e: Extents) -> bool
 }
 
 // The first extent of a guest that breaks the rule.
-fn first_in(rule: Rule, e: Extents) -> Found
+fn first_in(rule: Rule, e: Extents) -> Option<usize>
     ensures { result ≡ first_below extent_limit (breaks (rule_of rule) e) }
 {
     let n = least(e.extents as usize, EXTENTS);
@@ -96,15 +96,15 @@ fn first_in(rule: Rule, e: Extents) -> Found
     let mut i = 0;
     while i < n {
         if !holds_at(rule, list, i) {
-            return Found::At(i);
+            return Some(i);
         }
         i += 1;
     }
-    Found::Nothing
+    None
 }
 
 // The first extent on the host that breaks the rule: by guest, and then by position.
-fn first_breaking(rule: Rule, t: Tables) -> Found
+fn first_breaking(rule: Rule, t: Tables) -> Option<usize>
     ensures { result ≡ first_breaking (rule_of rule) t }
 {
     let guest = t.guest;
@@ -113,32 +113,32 @@ fn first_breaking(rule: Rule, t: Tables) -> Found
         let at = guest[g];
         let e = at.extents;
         let found = first_in(rule, e);
-        if let Found::At(i) = found {
-            return Found::At(EXTENTS * g + i);
+        if let Some(i) = found {
+            return Some(EXTENTS * g + i);
         }
         g += 1;
     }
-    Found::Nothing
+    None
 }
 
-pub fn wrong_numbers(t: Tables) -> Found
+pub fn wrong_numbers(t: Tables) -> Option<usize>
     ensures { result ≡ first_breaking right_at t }
 {
     first_breaking(Rule::Right, t)
 }
 
-pub fn out_of_order(t: Tables) -> Found
+pub fn out_of_order(t: Tables) -> Option<usize>
     ensures { result ≡ first_breaking follows t }
 {
     first_breaking(Rule::Follows, t)
 }
 
-fn is_found(found: Found) -> bool
+fn is_found(found: Option<usize>) -> bool
     ensures { result ≡ is_found found }
 {
     match found {
-        Found::Nothing => false,
-        Found::At(_) => true,
+        None => false,
+        Some(_) => true,
     }
 }
 
@@ -176,17 +176,17 @@ fn share(x: Extent, y: Extent) -> bool
 }
 
 // The first run that shares a page with one before it. Of two pairs that is the one whose later run comes first.
-pub fn shares_before(t: Tables) -> Found
+pub fn shares_before(t: Tables) -> Option<usize>
     ensures { result ≡ shares_before t }
 {
     let runs = runs(t);
-    let mut shared = Found::Nothing;
+    let mut shared = None;
     let mut j = 0;
     'pairs: while j < RUNS {
         let mut i = 0;
         while i < j {
             if share(runs[i], runs[j]) {
-                shared = Found::At(j);
+                shared = Some(j);
                 break 'pairs;
             }
             i += 1;
@@ -242,17 +242,17 @@ fn alike(x: Name, y: Name) -> bool
 }
 
 // The first source that has the name of one before it.
-pub fn named_before(t: Tables) -> Found
+pub fn named_before(t: Tables) -> Option<usize>
     ensures { result ≡ named_before t }
 {
     let names = names(t);
-    let mut twice = Found::Nothing;
+    let mut twice = None;
     let mut j = 0;
     'pairs: while j < NAMES {
         let mut i = 0;
         while i < j {
             if alike(names[i], names[j]) {
-                twice = Found::At(j);
+                twice = Some(j);
                 break 'pairs;
             }
             i += 1;

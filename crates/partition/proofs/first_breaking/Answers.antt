@@ -13,11 +13,11 @@ loop-g-init c = (omega arith, first_start _)
 
 pub overflow_add-result : goal.overflow_add-result
 overflow_add-result c =
-    let few : c.in-At.i < extent_limit = search (place_few (rule_of c.args.rule)) in
+    let few : c.in-Some.i < extent_limit = search (place_few (rule_of c.args.rule)) in
     omega (arith, few)
 
-pub returns-in-At : goal.returns-in-At
-returns-in-At c =
+pub returns-in-Some : goal.returns-in-Some
+returns-in-Some c =
     search (guest_breaks_lem (rule_of c.args.rule) c.args.t)
 
 pub loop-g-preserved : goal.loop-g-preserved
