@@ -1,13 +1,14 @@
 -- What a read came to.
-use Rattle.std.specs.Prelude.{◌≡◌, ◌≤◌, Bool, true, false, ℕ, zero, suc, List, length, take}
+use Rattle.std.specs.Prelude.{◌≡◌, ◌≤◌, ℕ, zero, suc, List, length, take, Result, Ok, Err}
+use Rattle.std.specs.declared.io.ErrorKind.{ErrorKind}
 use Rattle.stream.specs.declared.Got.{Got}
 
--- by whether it failed, whether that was for a signal, and how many bytes came: no bytes are the end only if nothing failed
-abbrev pub got_of : Bool → Bool → ℕ → Got
-got_of true true n = Got.Again
-got_of true false n = Got.Failed
-got_of false interrupted zero = Got.End
-got_of false interrupted (suc n) = Got.Bytes (suc n)
+-- by how many bytes came, or why none did: no bytes are the end only if nothing failed
+abbrev pub got_of : Result ℕ ErrorKind → Got
+got_of (Ok zero) = Got.End
+got_of (Ok (suc n)) = Got.Bytes (suc n)
+got_of (Err ErrorKind.Interrupted) = Got.Again
+got_of (Err kind) = Got.Failed
 
 -- how many bytes came
 abbrev pub bytes_of : Got → ℕ

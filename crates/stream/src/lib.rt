@@ -17,7 +17,7 @@ pub struct Streams<R, W, E> {
 }
 
 // What a read came to: so many bytes, at least one, at the front of the buffer; the end of the input; nothing, since a signal came
-// first; a failure.
+// first; a failure. Each asks for something else, so they are four cases: Result and Option, one in the other, would name none of them.
 #[derive(Drop)]
 pub enum Got {
     Bytes(usize),
@@ -26,30 +26,16 @@ pub enum Got {
     Failed,
 }
 
-// n bytes came, of a call that failed or was interrupted none.
-fn got_of(failed: bool, interrupted: bool, n: usize) -> Got
-    ensures { result ≡ got_of failed interrupted n }
+// The number of bytes that came, or the kind of the failure.
+fn got_of(read: Result<usize, ErrorKind>) -> Got
+    ensures { result ≡ got_of read }
 {
-    if failed {
-        if interrupted {
-            return Got::Again;
-        }
-        return Got::Failed;
+    match read {
+        Ok(0) => Got::End,
+        Ok(n) => Got::Bytes(n),
+        Err(ErrorKind::Interrupted) => Got::Again,
+        Err(_) => Got::Failed,
     }
-    if n == 0 {
-        return Got::End;
-    }
-    Got::Bytes(n)
-}
-
-// Whether a call failed for a signal, before it moved a byte. It can be made again.
-fn was_interrupted(error: &Error) -> bool {
-    matches!(error.kind(), ErrorKind::Interrupted)
-}
-
-// Whether it did so since nobody reads the output any more, which is nothing to tell.
-fn was_closed(error: &Error) -> bool {
-    matches!(error.kind(), ErrorKind::BrokenPipe)
 }
 
 // What failed, and why. Where that cannot be written there is nowhere left to tell it.
@@ -70,59 +56,21 @@ pub fn read_some<R: Read, W, E: Print>(
     ensures ended { result ≡ Got.End → 0 < length buf.new → IsAtEnd (R.remaining streams.new.input) }
 {
     match streams.input.read(buf) {
-        Ok(n) => got_of(false, false, n),
+        Ok(n) => got_of(Ok(n)),
         Err(error) => {
-            let interrupted = was_interrupted(&error);
-            if !interrupted {
+            let kind = error.kind();
+            // A signal came before any byte did: the call can be made again.
+            if kind != ErrorKind::Interrupted {
                 tell(&streams.errors, what, &error);
             }
-            got_of(true, interrupted, 0)
-        }
-    }
-}
-
-// What one write came to: how many bytes it took, and whether another one can be tried.
-#[derive(Drop)]
-struct Took {
-    count: usize,
-    on: bool,
-}
-
-// Writes once.
-fn write_some<R, W: Write, E: Print>(
-    streams: &mut Streams<R, W, E>,
-    bytes: &[u8],
-    what: &[u8],
-) -> Took
-    ensures counted { result.count ≤ length bytes.now }
-    ensures written { Appends (W.contents streams.old.output) (W.contents streams.new.output) (take result.count bytes.now) }
-{
-    match streams.output.write(bytes) {
-        Ok(count) => {
-            if count == 0 {
-                tell(&streams.errors, what, &Error::from(ErrorKind::WriteZero));
-            }
-            Took {
-                count,
-                on: count > 0,
-            }
-        }
-        Err(error) => {
-            let interrupted = was_interrupted(&error);
-            if !interrupted && !was_closed(&error) {
-                tell(&streams.errors, what, &error);
-            }
-            Took {
-                count: 0,
-                on: interrupted,
-            }
+            got_of(Err(kind))
         }
     }
 }
 
 // Writes bytes, and tells how many of them were written, which are the first: all, unless a write failed. A failure is told as what;
-// a closed pipe is not. A proved loop has to end, and a write can be interrupted any number of times: this one counts down from a
-// number that no run uses up.
+// a closed pipe is not, since nobody reads the output any more. A proved loop has to end, and a write can be interrupted any number of
+// times: this one has more turns than any run uses up.
 pub fn write_all<R, W: Write, E: Print>(
     streams: &mut Streams<R, W, E>,
     bytes: &[u8],
@@ -132,13 +80,24 @@ pub fn write_all<R, W: Write, E: Print>(
     ensures written { Appends (W.contents streams.old.output) (W.contents streams.new.output) (take result bytes.now) }
 {
     let mut done = 0;
-    let mut turns = u64::MAX;
-    while turns > 0 && done < bytes.len() {
-        turns -= 1;
-        let took = write_some(streams, &bytes[done..], what);
-        done += took.count;
-        if !took.on {
+    for _ in 0..u64::MAX {
+        if done == bytes.len() {
             return done;
+        }
+        match streams.output.write(&bytes[done..]) {
+            Ok(0) => {
+                tell(&streams.errors, what, &Error::from(ErrorKind::WriteZero));
+                return done;
+            }
+            Ok(n) => done += n,
+            Err(error) => match error.kind() {
+                ErrorKind::Interrupted => {}
+                ErrorKind::BrokenPipe => return done,
+                _ => {
+                    tell(&streams.errors, what, &error);
+                    return done;
+                }
+            },
         }
     }
     done

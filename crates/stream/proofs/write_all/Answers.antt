@@ -1,14 +1,16 @@
--- `stream::write_all` counts what it has written, and no more bytes than there are.
+-- `stream::write_all` counts what it has written, and no more bytes than there are: a write that was interrupted wrote nothing.
 use Rattle.std.proofs.Common.{arith}
+use Rattle.std.proofs.KnownBytes.{Appends-kept}
 use Rattle.stream.proofs.WriteLaws.{written_on}
 use Rattle.stream.proofs.write_all.Goals as goal
+use Rattle.stream.proofs.write_all.Goals.{in-Ok, in-Err+in-Interrupted}
 
-pub returns-then-not-took-clause-written : goal.returns-then-not-took-clause-written
-returns-then-not-took-clause-written g c =
-    written_on c.loop-turns.done c.write_some-took.result.count c.args.bytes.now _ _ _ c.loop-turns.invariant.1 c.write_some-took.ensures.written
-
-pub loop-turns-preserved : goal.loop-turns-preserved
-loop-turns-preserved g c = (
-  omega arith,
-  written_on c.loop-turns.done c.write_some-took.result.count c.args.bytes.now _ _ _ c.loop-turns.invariant.1 c.write_some-took.ensures.written,
-)
+pub loop-preserved : goal.loop-preserved
+loop-preserved g c =
+    elim c.match-write.branch [
+      | in-Ok w ↦ (
+        omega (arith, w.in-Ok.ensures.bound),
+        rw w.done-is (written_on c.loop.done w.in-Ok.n c.args.bytes.now _ _ _ c.loop.invariant.1 w.in-Ok.ensures.bytes),
+      )
+      | in-Err+in-Interrupted w ↦ (omega arith, rw w.done-is (Appends-kept _ _ _ _ c.loop.invariant.1 w.in-Err.ensures.bytes))
+    ]
