@@ -1,4 +1,5 @@
 -- The tests of a guest's settings at each return of the code; t, h and w are what the code's own tests came to.
+use Rattle.std.proofs.Common.{is_ok}
 use mathlib.Core.Path.{◌≡◌, sym, ap, ◌∙◌}
 use mathlib.Core.Bool.{Bool, true, false, not}
 use Prim.Native.Nat.{ℕ, ◌/◌, ◌%◌}
@@ -9,8 +10,7 @@ use Rattle.rules.specs.declared.Ring.{Ring}
 use Rattle.rules.specs.Rulings.{Ruling, accepts}
 use Rattle.rules.specs.Queues.{new_ring}
 use Rattle.rules.specs.Tables.{place_right, ring_right, record_right}
-use Rattle.records.specs.declared.Verdict.{Verdict}
-use Rattle.records.specs.Verdict.{verdict_of, is_right}
+use Rattle.records.specs.Verdict.{Verdict, verdict_of}
 use Rattle.records.proofs.Told.{accepts_is}
 
 module _ (size at : ℕ) where
@@ -27,9 +27,9 @@ module _ (v : ℕ → ℕ → Bool) (ring : Ring) where
   unfolding ring_right
   ring_part h = rw (ne_eqb _ _ h)
 
-  module _ (z : ring.size % 64 ≡ 0) (w : Verdict) (p : w ≡ verdict_of (new_ring v ring.base (ring.size / 64))) (t : Bool) (q : t ≡ is_right w) where
+  module _ (z : ring.size % 64 ≡ 0) (w : Verdict) (p : w ≡ verdict_of (new_ring v ring.base (ring.size / 64))) (t : Bool) (q : t ≡ is_ok w) where
     accepted_is : accepts (new_ring v ring.base (ring.size / 64)) ≡ t
-    accepted_is = accepts_is _ ∙ ap is_right (sym p) ∙ sym q
+    accepted_is = accepts_is _ ∙ ap is_ok (sym p) ∙ sym q
 
     pub ring_refused : not t ≡ true → false ≡ ring_right v ring
     unfolding ring_right
@@ -49,5 +49,5 @@ pub record_set : (v : ℕ → ℕ → Bool) (held : QueueRecord) (ring : Ring) (
 record_set v held ring t e p = rw (e, p)
 
 -- a verdict that is right is the rule's acceptance
-pub right_accepts : {A : Type 0} (x : Ruling A) (w : Verdict) (t : Bool) → w ≡ verdict_of x → t ≡ is_right w → t ≡ accepts x
-right_accepts x w t p q = q ∙ ap is_right p ∙ sym (accepts_is x)
+pub right_accepts : {A : Type 0} (x : Ruling A) (w : Verdict) (t : Bool) → w ≡ verdict_of x → t ≡ is_ok w → t ≡ accepts x
+right_accepts x w t p q = q ∙ ap is_ok p ∙ sym (accepts_is x)

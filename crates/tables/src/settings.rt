@@ -8,36 +8,28 @@ ghost use Rattle.tables.specs.Lists.{queues_right, tsb_keeps, cpu_keeps, cpus_ke
 
 use crate::blank::{cpu_blank, source_blank, tsb_blank};
 use crate::right::{source_right, versions_right};
-use records::{is_right, judge_ring, judge_statistics, judge_tsb};
+use records::{judge_ring, judge_statistics, judge_tsb};
 use rules::{
     CPUS, Cpu, Extents, Plant, QUEUES, Queue, QueueRecord, Ring, SOURCES, Source, TSBS, Tsb, Tsbs,
 };
 
 // A head or tail: a multiple of 64 below the ring's size.
+#[tactic(auto, unfolding(rules::specs::Tables::place_right))]
 fn place_right(size: u16, at: u16) -> bool
     ensures { result ≡ place_right size at }
 {
-    if at % 64 != 0 {
-        return false;
-    }
-    at < size
+    at % 64 == 0 && at < size
 }
 
+#[tactic(auto, using(records::proofs::Told::accepts_is), unfolding(rules::specs::Tables::ring_right))]
 fn ring_right(e: Extents, ring: Ring) -> bool
     requires { e.extents ≤ extent_limit }
     ensures { result ≡ ring_right (valid (present e)) ring }
 {
-    if ring.size % 64 != 0 {
-        return false;
-    }
-    let verdict = judge_ring(e, ring.base, (ring.size / 64) as u64);
-    if !is_right(verdict) {
-        return false;
-    }
-    if !place_right(ring.size, ring.head) {
-        return false;
-    }
-    place_right(ring.size, ring.tail)
+    ring.size % 64 == 0
+        && judge_ring(e, ring.base, (ring.size / 64) as u64).is_ok()
+        && place_right(ring.size, ring.head)
+        && place_right(ring.size, ring.tail)
 }
 
 fn record_right(e: Extents, held: QueueRecord) -> bool
@@ -67,12 +59,13 @@ fn queues_right(e: Extents, queues: [Queue; QUEUES]) -> bool
 }
 
 // A place of a TSB list: a descriptor that is there is right, and any other is blank.
+#[tactic(auto, using(records::proofs::Told::accepts_is), unfolding(crate::specs::Lists::tsb_keeps))]
 fn tsb_keeps(e: Extents, there: bool, t: Tsb) -> bool
     requires { e.extents ≤ extent_limit }
     ensures { result ≡ tsb_keeps (valid (present e)) there t }
 {
     if there {
-        is_right(judge_tsb(e, t))
+        judge_tsb(e, t).is_ok()
     } else {
         tsb_blank(t)
     }
@@ -93,6 +86,7 @@ fn tsbs_right(e: Extents, tsbs: Tsbs) -> bool
     keep
 }
 
+#[tactic(auto, using(records::proofs::Told::accepts_is), unfolding(rules::specs::Tables::cpu_right, crate::specs::Lists::queues_right))]
 fn cpu_right(e: Extents, cpu: Cpu) -> bool
     requires { e.extents ≤ extent_limit }
     ensures { result ≡ cpu_right (valid (present e)) cpu }
@@ -100,8 +94,9 @@ fn cpu_right(e: Extents, cpu: Cpu) -> bool
     let queues = cpu.queue;
     let ctx0 = cpu.ctx0;
     let ctxnon0 = cpu.ctxnon0;
-    let verdict = judge_statistics(e, cpu.statistics);
-    queues_right(e, queues) & (tsbs_right(e, ctx0) & (tsbs_right(e, ctxnon0) & is_right(verdict)))
+    queues_right(e, queues)
+        & (tsbs_right(e, ctx0)
+            & (tsbs_right(e, ctxnon0) & judge_statistics(e, cpu.statistics).is_ok()))
 }
 
 fn cpu_keeps(e: Extents, there: bool, cpu: Cpu) -> bool
