@@ -1,12 +1,14 @@
 -- A range walked from piece to piece: what each turn of a loop adds.
 use mathlib.Core.Path.{◌≡◌, sym, ◌∙◌}
 use mathlib.Core.Bool.{true}
-use mathlib.Core.List.{List, [], ◌∷◌, ◌++◌}
+use mathlib.Core.List.{List, ◌++◌}
 use Prim.Native.Nat.{ℕ, zero, suc, ◌+◌, ◌-◌, ◌^◌, ◌≤◌, ◌<◌}
 use native.Mathlib.Omega.{arith}
 use native.Mathlib.Nat.{add-zero, zero-add, suc-add}
-use lib.ListN.{length, take, drop, length-take, length-drop, get_or, set, replicate, replicate-append-replicate, get_or-append}
-use lib.Seq.{sets, sets-eq, take-add, ext_get_or, get_or-take, get_or-drop}
+use lib.ListN.{length, take, drop, length-take, length-drop, get_or, replicate, replicate-append-replicate}
+use lib.Seq.{sets, take-add, ext_get_or, get_or-take, get_or-drop}
+use borrow.Rule.Slice.PartMut.{put_mid}
+use Rattle.std.proofs.lemmas.Slice.{take-put_mid}
 use Rattle.rules.specs.declared.Extent.{Extent}
 use Rattle.rules.specs.Real.{valid, byte_at, number_of, bytes_from, put_bytes, apply}
 use Rattle.memory.specs.declared.extents.Piece.{Piece}
@@ -62,13 +64,7 @@ put_all es m vs after base e = e
 pub zeros_parts : (i k : ℕ) → ◌++◌ {A = ℕ} (replicate i 0) (replicate k 0) ≡ replicate (i + k) 0
 zeros_parts i k = replicate-append-replicate i k 0
 
--- Bytes that are read piece by piece into the front of an array: the piece that is copied is what is seen.
-sets_append : (us vs z : List ℕ) (i : ℕ) → sets (sets z i us) (i + length us) vs ≡ sets z i (us ++ vs)
-sets_append [] vs z i = rw add-zero
-sets_append (u ∷ us) vs z i =
-    let e : i + suc (length us) ≡ suc i + length us = omega arith in
-    rw e (sets_append us vs (set z i u) (suc i))
-
+-- Bytes that are read piece by piece into an array: the piece that is copied is what is seen.
 bytes_append : (f : ℕ → ℕ) (a i k : ℕ) → bytes_from f a (i + k) ≡ bytes_from f a i ++ bytes_from f (a + i) k
 unfolding bytes_from
 bytes_append f a zero k = rw (zero-add, add-zero)
@@ -91,24 +87,21 @@ bytes_cut m h k l =
     go : (i : ℕ) → i < k → get_or (bytes_from (cell m) h k) i 0 ≡ get_or (cut m h k) i 0
     go i j = bytes_at_lem (cell m) h k i j ∙ sym (get_or-take (h + k - h) (drop h m) i 0 (omega arith) ∙ get_or-drop h m i 0)
 
-module _ (es : List Extent) (m z : List ℕ) (base i n : ℕ) (p : Piece) (q : p ≡ piece_of es (base + i) (n - i)) (r : Ready es (length m)) where
-  pub walk_read : (out out' : List ℕ) → out ≡ sets z 0 (bytes_from (byte_at es m) base i) → out' ≡ sets out i (cut m p.at.0 p.len)
-      → out' ≡ sets z 0 (bytes_from (byte_at es m) base (i + p.len))
-  walk_read out out' e w =
+module _ (es : List Extent) (m : List ℕ) (base i n : ℕ) (p : Piece) (q : p ≡ piece_of es (base + i) (n - i)) (r : Ready es (length m)) where
+  pub walk_read : (out ys : List ℕ) → take i out ≡ bytes_from (byte_at es m) base i → ys ≡ cut m p.at.0 p.len → i + p.len ≤ length out
+      → take (i + p.len) (put_mid i (i + p.len - i) out ys) ≡ bytes_from (byte_at es m) base (i + p.len)
+  walk_read out ys e w h =
       let fits : p.at.0 + p.len ≤ length m = rw q (piece_room es (base + i) (n - i) (length m) r.long) in
       let seen : bytes_from (byte_at es m) (base + i) p.len ≡ cut m p.at.0 p.len =
       bytes_same (byte_at es m) (cell m) (base + i) p.at.0 p.len (λ k l. rw q (byte_run es m (base + i) (n - i) k r.apart (rw q at l)))
       ∙ bytes_cut m p.at.0 p.len fits in
-      let s : sets (sets z 0 (bytes_from (byte_at es m) base i)) (0 + length (bytes_from (byte_at es m) base i)) (cut m p.at.0 p.len) ≡ _ = sets_append (bytes_from (byte_at es m) base i) (cut m p.at.0 p.len) z 0 in
-      w ∙ rw (bytes_append, seen, e) (simp (zero-add, bytes_length) at s)
+      let long : length ys ≡ p.len = rw w (cut_length m p.at.0 p.len fits) in
+      take-put_mid i (i + p.len - i) out ys (i + p.len) (omega arith) (omega arith) ∙ rw (bytes_append, seen, e, w)
 
--- the number of bytes that were read into the front of z
-pub number_read : (f : ℕ → ℕ) (z out : List ℕ) (a k v : ℕ) → out ≡ sets z 0 (bytes_from f a k) → k ≤ length z
-    → (v ≡ number_of (cell out) 0 k) × (v < 256 ^ k) → (v ≡ number_of f a k) × (v < 256 ^ k)
-number_read f z out a k v e l q = (q.0 ∙ rw e (number_same (cell (sets z 0 (bytes_from f a k))) f 0 a k (λ j h. seen j h)), q.1)
-  where
-    seen : (j : ℕ) → j < k → get_or (sets z 0 (bytes_from f a k)) (0 + j) 0 ≡ f (a + j)
-    seen j h =
-        let n : length (bytes_from f a k) ≡ k = bytes_length f a k in
-        rw (zero-add, sets-eq (bytes_from f a k) z 0 (omega arith))
-        (get_or-append (bytes_from f a k) (drop (0 + length (bytes_from f a k)) z) 0 j (omega arith) ∙ bytes_at_lem f a k j h)
+-- the number that bytes make which were read from a on
+pub number_read : (f : ℕ → ℕ) (out : List ℕ) (a k v : ℕ) → out ≡ bytes_from f a k → (v ≡ number_of (cell out) 0 (length out)) × (v < 256 ^ length out)
+    → (v ≡ number_of f a k) × (v < 256 ^ k)
+number_read f out a k v e q =
+    let n : length out ≡ k = rw e (bytes_length f a k) in
+    let w : (v ≡ number_of (cell out) 0 k) × (v < 256 ^ k) = rw n at q in
+    (w.0 ∙ rw e (number_same (cell (bytes_from f a k)) f 0 a k (λ j h. rw zero-add (bytes_at_lem f a k j h))), w.1)

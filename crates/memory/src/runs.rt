@@ -9,11 +9,7 @@ pub fn write(mem: &mut [u8], at: usize, src: &[u8])
     requires { at + length src.now ≤ length mem.old }
     ensures { mem.new ≡ sets mem.old at src.now }
 {
-    let mut i = 0;
-    while i < src.len() {
-        mem[at + i] = src[i];
-        i += 1;
-    }
+    mem[at..at + src.len()].copy_from_slice(src);
 }
 
 // Zeroes n bytes of mem from the offset at.
@@ -21,31 +17,17 @@ pub(crate) fn zero(mem: &mut [u8], at: usize, n: usize)
     requires { at + n ≤ length mem.old }
     ensures { mem.new ≡ sets mem.old at (replicate n 0) }
 {
-    let mut i = 0;
-    while i < n {
-        mem[at + i] = 0;
-        i += 1;
-    }
+    mem[at..at + n].fill(0);
 }
 
-// A byte as a word, which says that it is below 256.
-fn wide(x: u8) -> u64
-    ensures { (result ≡ x) × (result < 256) }
-{
-    x as u64
-}
-
-// The number that k bytes from the offset at make.
-pub(crate) fn number(mem: &[u8], at: usize, k: usize) -> u64
-    requires k_bound { k ≤ 8 }
-    requires k_in_bounds { at + k ≤ length mem.now }
-    ensures { (result ≡ number_of (cell mem.now) at k) × (result < 256 ^ k) }
+// The number that bytes make, most significant first.
+pub(crate) fn number_in(bytes: &[u8]) -> u64
+    requires { length bytes.now ≤ 8 }
+    ensures { (result ≡ number_of (cell bytes.now) 0 (length bytes.now)) × (result < 256 ^ length bytes.now) }
 {
     let mut v = 0;
-    let mut i = 0;
-    while i < k {
-        v = v * 256 + wide(mem[at + i]);
-        i += 1;
+    for b in bytes {
+        v = v * 256 + u64::from(*b);
     }
     v
 }
@@ -54,14 +36,5 @@ pub(crate) fn number(mem: &[u8], at: usize, k: usize) -> u64
 pub fn word_bytes(v: u64) -> [u8; 8]
     ensures { result ≡ word_bytes v }
 {
-    [
-        (v / 0x100_0000_0000_0000 % 256) as u8,
-        (v / 0x1_0000_0000_0000 % 256) as u8,
-        (v / 0x100_0000_0000 % 256) as u8,
-        (v / 0x1_0000_0000 % 256) as u8,
-        (v / 0x100_0000 % 256) as u8,
-        (v / 0x1_0000 % 256) as u8,
-        (v / 0x100 % 256) as u8,
-        (v % 256) as u8,
-    ]
+    v.to_be_bytes()
 }

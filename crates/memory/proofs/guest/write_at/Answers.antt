@@ -13,21 +13,21 @@ loop-i-init c = (omega arith, refl, omega arith, refl)
 
 pub slice_bounds-write-end : goal.slice_bounds-write-end
 slice_bounds-write-end c =
-    omega (arith, walk_most _ _ _ _ _ c.piece_at-p.ensures.0 (omega arith))
+    omega (arith, walk_most _ _ _ _ _ c.piece_at-at.ensures.0 (omega arith))
 
 pub write-requires : goal.write-requires
 write-requires c =
-    let most = walk_most _ _ _ _ _ c.piece_at-p.ensures.0 (omega arith) in
-    omega (arith, walk_fits _ _ _ _ _ c.piece_at-p.ensures.0 _ c.requires.ready, cut_length c.args.src.now c.loop-i.i c.piece_at-p.result.len most, c.loop-i.invariant.1)
+    let most = walk_most _ _ _ _ _ c.piece_at-at.ensures.0 (omega arith) in
+    omega (arith, walk_fits _ _ _ _ _ c.piece_at-at.ensures.0 _ c.requires.ready, cut_length c.args.src.now c.loop-i.i c.piece_at-at.result.len most, c.loop-i.invariant.1)
 
 pub loop-i-smaller : goal.loop-i-smaller
 loop-i-smaller c =
-    omega (arith, walk_some _ _ _ _ _ c.piece_at-p.ensures.0 c.requires.src_value (omega arith))
+    omega (arith, walk_some _ _ _ _ _ c.piece_at-at.ensures.0 c.requires.src_value (omega arith))
 
 pub loop-i-preserved : goal.loop-i-preserved
 loop-i-preserved c =
-    let most = walk_most _ _ _ _ _ c.piece_at-p.ensures.0 (omega arith) in
-    (most, c.write.auto.mem ∙ c.loop-i.invariant.1, omega (arith, c.piece_at-p.ensures.1), rw (← cut_parts c.args.src.now c.loop-i.i c.piece_at-p.result.len) (walk_put _ _ _ _ _ c.piece_at-p.ensures.0 c.args.mem.now c.loop-i.mem _ _ _ c.requires.ready.apart c.loop-i.invariant.3 (length-take-le _ _ (omega arith)) (cut_length _ _ _ most) c.write.ensures))
+    let most = walk_most _ _ _ _ _ c.piece_at-at.ensures.0 (omega arith) in
+    (most, c.write.auto.mem ∙ c.loop-i.invariant.1, omega (arith, c.piece_at-at.ensures.1), rw (← cut_parts c.args.src.now c.loop-i.i c.piece_at-at.result.len) (walk_put _ _ _ _ _ c.piece_at-at.ensures.0 c.args.mem.now c.loop-i.mem _ _ _ c.requires.ready.apart c.loop-i.invariant.3 (length-take-le _ _ (omega arith)) (cut_length _ _ _ most) c.write.ensures))
 
 pub returns : goal.returns
 returns c =

@@ -7,7 +7,7 @@ use Rattle.memory.specs.Ready.{present}
 use Rattle.memory.proofs.guest.write_at.Given as goal
 
 abbrev pub invariant-loop-i : goal.invariant-loop-i
-invariant-loop-i l = (l.i ≤ length l.src) × (length l.mem ≡ length l.initial.mem) × (l.base + l.i < 2 ^ 64) × (l.mem ≡ put_bytes (present l.e) l.initial.mem l.base (take l.i l.src))
+invariant-loop-i l = (l.i ≤ length l.src) × (length l.mem ≡ length l.initial.mem) × (l.real.0 + l.i < 2 ^ 64) × (l.mem ≡ put_bytes (present l.e) l.initial.mem l.real.0 (take l.i l.src))
 
 abbrev pub decreases-loop-i : goal.decreases-loop-i
 decreases-loop-i l = length l.src - l.i

@@ -12,20 +12,20 @@ loop-i-init c = (omega arith, refl, omega arith, refl)
 
 pub zero-requires : goal.zero-requires
 zero-requires c =
-    omega (arith, walk_fits _ _ _ _ _ c.piece_at-p.ensures.0 _ c.requires.ready, c.loop-i.invariant.1)
+    omega (arith, walk_fits _ _ _ _ _ c.piece_at-at.ensures.0 _ c.requires.ready, c.loop-i.invariant.1)
 
 pub loop-i-smaller : goal.loop-i-smaller
 loop-i-smaller c =
-    omega (arith, walk_some _ _ _ _ _ c.piece_at-p.ensures.0 c.requires.n_value (omega arith))
+    omega (arith, walk_some _ _ _ _ _ c.piece_at-at.ensures.0 c.requires.n_value (omega arith))
 
 pub loop-i-preserved : goal.loop-i-preserved
 loop-i-preserved c =
-    let k = c.piece_at-p.result.len in (
-      walk_most _ _ _ _ _ c.piece_at-p.ensures.0 (omega arith),
+    let k = c.piece_at-at.result.len in (
+      walk_most _ _ _ _ _ c.piece_at-at.ensures.0 (omega arith),
       c.zero.auto.mem ∙ c.loop-i.invariant.1,
-      omega (arith, c.piece_at-p.ensures.1),
+      omega (arith, c.piece_at-at.ensures.1),
       rw (← zeros_parts c.loop-i.i k)
-          (walk_put _ _ _ _ _ c.piece_at-p.ensures.0 c.args.mem.now c.loop-i.mem _ _ _ c.requires.ready.apart c.loop-i.invariant.3 (length-replicate _ _) (length-replicate _ _) c.zero.ensures),
+          (walk_put _ _ _ _ _ c.piece_at-at.ensures.0 c.args.mem.now c.loop-i.mem _ _ _ c.requires.ready.apart c.loop-i.invariant.3 (length-replicate _ _) (length-replicate _ _) c.zero.ensures),
     )
 
 pub returns : goal.returns

@@ -7,7 +7,7 @@ use Rattle.memory.specs.Ready.{present}
 use Rattle.memory.proofs.guest.zero_at.Given as goal
 
 abbrev pub invariant-loop-i : goal.invariant-loop-i
-invariant-loop-i l = (l.i ≤ l.n) × (length l.mem ≡ length l.initial.mem) × (l.base + l.i < 2 ^ 64) × (l.mem ≡ put_bytes (present l.e) l.initial.mem l.base (replicate l.i 0))
+invariant-loop-i l = (l.i ≤ l.n) × (length l.mem ≡ length l.initial.mem) × (l.real.0 + l.i < 2 ^ 64) × (l.mem ≡ put_bytes (present l.e) l.initial.mem l.real.0 (replicate l.i 0))
 
 abbrev pub decreases-loop-i : goal.decreases-loop-i
 decreases-loop-i l = l.n - l.i

@@ -1,11 +1,7 @@
--- `write` meets its contract. The invariant: the first i bytes of src are stored.
-use native.Mathlib.Omega.{arith}
-use lib.ListN.{length-set}
-use Rattle.memory.proofs.Stores.{copy_more}
+-- `write` meets its contract.
+use Rattle.std.proofs.Common.{refl}
+use Rattle.memory.proofs.Stores.{copy_stores}
 use Rattle.memory.proofs.runs.write.Goals as goal
 
-pub loop-i-preserved : goal.loop-i-preserved
-loop-i-preserved c =
-    let a = c.args in
-    let l = c.loop-i in
-    (omega arith, rw l.invariant.1 (copy_more a.mem.now a.src.now a.at l.i (omega arith)), simp length-set l.invariant.2)
+pub returns : goal.returns
+returns c = rw c.copy_from_slice.ensures.after (copy_stores _ c.args.src.now _ _ refl c.requires)
