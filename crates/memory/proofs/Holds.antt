@@ -1,13 +1,13 @@
 -- Laws of the test of one extent, and of the search through a guest's extents for the first piece of a range.
-use mathlib.Core.Path.{◌≡◌, refl, sym, ◌∙◌}
+use mathlib.Core.Path.{◌≡◌, refl, sym}
 use mathlib.Core.Bool.{Bool, true, false, ◌&&◌, cond}
-use mathlib.Core.List.{List, map}
+use mathlib.Core.List.{List}
 use Prim.Native.Nat.{ℕ, ◌+◌, ◌-◌, ◌^◌, ◌≤◌, ◌<◌, min}
 use native.Mathlib.Omega.{arith}
 use native.Mathlib.Numerals.{add-one}
 use lib.Dec.{leb, ltb}
-use lib.ListN.{length, get_or, take, length-map}
-use lib.Seq.{slice, slice-cons, slice_empty}
+use lib.ListN.{length, get_or, drop, drop_of_length-le}
+use lib.Seq.{drop-cons}
 use borrow.Author.Tests.{le-leb, leb-true, ltb-true, lt-ltb, le-ltb}
 use Rattle.rules.specs.declared.Extent.{Extent}
 use Rattle.rules.specs.declared.Host.{Host}
@@ -42,58 +42,35 @@ pub part_is : (x : Extent) (a n : ℕ) (h : Host) (k e : ℕ) → a < high x →
 unfolding part_of
 part_is x a n h k e l d b p q = (rw (p, q, d), omega (arith, d))
 
--- the places that an array is known to have, its elements told one by one
-pub array_long : {A B : Type 0} (f : A → B) (l : List A) (k n : ℕ) → length (map f l) ≡ k → n ≤ k → n ≤ length l
-array_long f l k n e h = omega (arith, e, length-map l f)
+-- A search through the extents es, at place i: t is what the test of the extent there came to. The invariant is that the whole is as
+-- it is from i on.
+abbrev pub From : List Extent → ℕ → ℕ → ℕ → Type 0
+From es b len i = piece_of es b len ≡ piece_of (drop i es) b len
 
--- A search through the first n of the extents es, at place i: t is what the test of the extent there came to. The invariant is
--- that the whole is as it is from i on.
-abbrev pub From : List Extent → ℕ → ℕ → ℕ → ℕ → Type 0
-From es b len n i = piece_of (take n es) b len ≡ piece_of (slice i n es) b len
-
--- where the test held, the range starts in the extent
-pub starts_in : (es : List Extent) (b i : ℕ) (t : Bool) → t ≡ holds (get_or es i blank_extent) b → t ≡ true
-    → (low (get_or es i blank_extent) ≤ b) × (b < high (get_or es i blank_extent))
-starts_in es b i t e p =
-    let h : holds (get_or es i blank_extent) b ≡ true = sym e ∙ p in
-    (holds_low (get_or es i blank_extent) b h, holds_high (get_or es i blank_extent) b h)
-
-module _ (es : List Extent) (b len n i : ℕ) (t : Bool) where
-  pub piece_found : (p : Piece) → From es b len n i → i < n → n ≤ length es → t ≡ holds (get_or es i blank_extent) b → t ≡ true
-      → (p ≡ part_of (get_or es i blank_extent) b len) × (b + p.len < 2 ^ 64) → (p ≡ piece_of (take n es) b len) × (b + p.len < 2 ^ 64)
+module _ (es : List Extent) (b len i : ℕ) where
+  pub piece_found : (p : Piece) (t : Bool) → From es b len i → i < length es → t ≡ holds (get_or es i blank_extent) b → t ≡ true
+      → (p ≡ part_of (get_or es i blank_extent) b len) × (b + p.len < 2 ^ 64) → (p ≡ piece_of es b len) × (b + p.len < 2 ^ 64)
   unfolding piece_of
-  piece_found p a hi hn e h q = (rw (a, slice-cons i n es blank_extent hi hn, ← e, h) q.0, q.1)
+  piece_found p t a h e u q = (rw (a, drop-cons es i blank_extent h, ← e, u) q.0, q.1)
 
-  pub piece_on : From es b len n i → i < n → n ≤ length es → t ≡ holds (get_or es i blank_extent) b → t ≡ false → From es b len n (i + 1)
+  pub piece_on : (t : Bool) → From es b len i → i < length es → t ≡ holds (get_or es i blank_extent) b → t ≡ false → From es b len (i + 1)
   unfolding piece_of
-  piece_on a hi hn e h = rw (a, slice-cons i n es blank_extent hi hn, ← e, h, add-one)
+  piece_on t a h e u = rw (a, drop-cons es i blank_extent h, ← e, u, add-one)
 
-pub piece_none : (es : List Extent) (b len n i : ℕ) → b < 2 ^ 64 → From es b len n i → i ≤ n → n ≤ i
-    → (record { at = record { 0 = 0 }; len = 0 } ≡ piece_of (take n es) b len) × (b + 0 < 2 ^ 64)
-unfolding piece_of
-piece_none es b len n i l a u v =
-    let q : i ≡ n = omega arith in
-    (rw (a, q, slice_empty), omega arith)
+  pub piece_none : b < 2 ^ 64 → From es b len i → length es ≤ i → (record { at = record { 0 = 0 }; len = 0 } ≡ piece_of es b len) × (b + 0 < 2 ^ 64)
+  unfolding piece_of
+  piece_none l a h = (rw (a, drop_of_length-le es h), omega arith)
 
 -- The same search for what is reached: `at` is what was reached before place i.
-abbrev pub Onward : List Extent → ℕ → ℕ → ℕ → ℕ → Type 0
-Onward es base n i at = reach (take n es) base ≡ reach (slice i n es) at
+abbrev pub Onward : List Extent → ℕ → ℕ → ℕ → Type 0
+Onward es base i at = reach es base ≡ reach (drop i es) at
 
-module _ (x : Extent) (at r : ℕ) (t : Bool) where
-  pub step_in : t ≡ holds x at → t ≡ true → r ≡ high x → r ≡ cond (holds x at) (high x) at
-  step_in e h q = rw (← e, h) q
-
-  pub step_out : t ≡ holds x at → t ≡ false → at ≡ cond (holds x at) (high x) at
-  step_out e h = rw (← e, h)
-
-module _ (es : List Extent) (base n i at : ℕ) where
-  pub onward_on : (r : ℕ) → Onward es base n i at → i < n → n ≤ length es → r ≡ cond (holds (get_or es i blank_extent) at) (high (get_or es i blank_extent)) at
-      → Onward es base n (i + 1) r
+module _ (es : List Extent) (base i at : ℕ) where
+  pub onward_on : (r : ℕ) → Onward es base i at → i < length es → r ≡ cond (holds (get_or es i blank_extent) at) (high (get_or es i blank_extent)) at
+      → Onward es base (i + 1) r
   unfolding reach
-  onward_on r a hi hn e = rw (a, slice-cons i n es blank_extent hi hn, e, add-one)
+  onward_on r a h e = rw (a, drop-cons es i blank_extent h, e, add-one)
 
-  pub onward_end : Onward es base n i at → i ≤ n → n ≤ i → at ≡ reach (take n es) base
+  pub onward_end : Onward es base i at → length es ≤ i → at ≡ reach es base
   unfolding reach
-  onward_end a u v =
-      let q : i ≡ n = omega arith in
-      sym (rw (a, q, slice_empty))
+  onward_end a h = sym (rw (a, drop_of_length-le es h))

@@ -6,24 +6,29 @@ ghost use Rattle.rules.specs.Real.{low, high, host_offset, holds, reach, valid};
 ghost use Rattle.memory.specs.Ready.{present};
 ghost use Rattle.memory.specs.Pieces.{part_of, piece_of};
 
-use crate::bounds::least;
 use rules::{Extent, Extents, Host, PAGE_SIZE, Real};
 
 const PAGE: u64 = PAGE_SIZE as u64;
 
-// The real address past the extent's last.
+// The extent's first real address.
+fn first(x: Extent) -> u64
+    ensures { result ≡ low x }
+{
+    u64::from(x.real) * PAGE
+}
+
+// The real address past its last.
 fn end(x: Extent) -> u64
     ensures { result ≡ high x }
 {
-    (x.real as u64 + x.count as u64) * PAGE
+    (u64::from(x.real) + u64::from(x.count)) * PAGE
 }
 
 // Whether a real address is one of the extent's.
 fn inside(x: Extent, real: Real) -> bool
     ensures { result ≡ holds x real.0 }
 {
-    let first = (x.real as u64) * PAGE;
-    (first <= real.0) & (real.0 < end(x))
+    first(x) <= real.0 && real.0 < end(x)
 }
 
 // The host offset of a real address of the extent.
@@ -31,8 +36,7 @@ fn through(x: Extent, real: Real) -> Host
     requires { (low x ≤ real.0) × (real.0 < high x) }
     ensures { result ≡ host_offset x real }
 {
-    let first = (x.real as u64) * PAGE;
-    Host(((x.host as u64) * PAGE + (real.0 - first)) as usize)
+    Host((u64::from(x.host) * PAGE + (real.0 - first(x))) as usize)
 }
 
 // The end of the extent, if it has the address that was reached; else that address.
@@ -47,13 +51,9 @@ fn reached(e: Extents, base: u64) -> u64
     requires { e.extents ≤ extent_limit }
     ensures { result ≡ reach (present e) base }
 {
-    let count = e.extents as usize;
-    let list = e.extent;
     let mut at = base;
-    let mut i = 0;
-    while i < count {
-        at = onward(list[i], at);
-        i += 1;
+    for x in &e.extent[..e.extents as usize] {
+        at = onward(*x, at);
     }
     at
 }
@@ -63,8 +63,7 @@ pub fn range_valid(e: Extents, base: u64, len: u64) -> bool
     requires { e.extents ≤ extent_limit }
     ensures { result ≡ valid (present e) base len }
 {
-    let at = reached(e, base);
-    let own = at - base;
+    let own = reached(e, base) - base;
     len <= own
 }
 
@@ -80,10 +79,11 @@ fn part(x: Extent, real: Real, len: usize) -> Piece
     requires { (low x ≤ real.0) × (real.0 < high x) }
     ensures { (result ≡ part_of x real.0 len) × (real.0 + result.len < 2 ^ 64) }
 {
-    let rest = end(x) - real.0;
-    let len = least(len, rest as usize);
-    let at = through(x, real);
-    Piece { at, len }
+    let rest = (end(x) - real.0) as usize;
+    Piece {
+        at: through(x, real),
+        len: len.min(rest),
+    }
 }
 
 // The first piece of the len bytes from a real address on: those in the extent that has the address, or none if no extent has. The
@@ -92,15 +92,10 @@ pub(crate) fn piece_at(e: Extents, real: Real, len: usize) -> Piece
     requires { e.extents ≤ extent_limit }
     ensures { (result ≡ piece_of (present e) real.0 len) × (real.0 + result.len < 2 ^ 64) }
 {
-    let count = e.extents as usize;
-    let list = e.extent;
-    let mut i = 0;
-    while i < count {
-        let x = list[i];
-        if inside(x, real) {
-            return part(x, real, len);
+    for x in &e.extent[..e.extents as usize] {
+        if inside(*x, real) {
+            return part(*x, real, len);
         }
-        i += 1;
     }
     Piece {
         at: Host(0),

@@ -5,4 +5,4 @@ use Rattle.memory.proofs.extents.part.Goals as goal
 
 pub returns : goal.returns
 returns c =
-    part_is _ _ _ _ _ _ (omega arith) c.end.ensures (omega arith) c.least-len.ensures c.through-at.ensures
+    part_is _ _ _ _ _ _ (omega arith) c.end.ensures (omega arith) c.min.ensures c.through.ensures

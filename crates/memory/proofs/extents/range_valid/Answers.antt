@@ -6,7 +6,7 @@ use Rattle.memory.proofs.extents.range_valid.Goals as goal
 
 pub overflow_sub-own : goal.overflow_sub-own
 overflow_sub-own c =
-    omega (arith, c.reached-at.ensures, reach_from (present c.args.e) c.args.base)
+    omega (arith, c.reached.ensures, reach_from (present c.args.e) c.args.base)
 
 pub returns : goal.returns
 returns c = search valid_is
