@@ -8,37 +8,14 @@ use Rattle.rules.specs.declared.Cpu.{Cpu}
 use Rattle.rules.specs.declared.Plant.{Plant}
 use Rattle.rules.specs.declared.QueueRecord.{QueueRecord}
 use Rattle.rules.specs.declared.Source.{Source}
-use Rattle.rules.specs.declared.Tsbs.{Tsbs}
 use Rattle.rules.specs.declared.Versions.{Versions}
-use Rattle.rules.specs.Limits.{cpu_limit, queue_limit, source_limit}
-use Rattle.rules.specs.Kept.{cpu_at, with_versions, with_cpu, with_queue, with_sources, with_source, cpu_with_queue, cpu_with_ctx0, cpu_with_ctxnon0, cpu_with_statistics}
+use Rattle.rules.specs.Limits.{cpu_limit, source_limit}
+use Rattle.rules.specs.Kept.{cpu_at, with_versions, with_cpu, with_queue, with_sources, with_source}
 use Rattle.rules.specs.Versions.{disabled, all_disabled}
 use Rattle.plants.specs.declared.change.Change.{Change}
 use Rattle.plants.specs.declared.change.CpuChange.{CpuChange}
 use Rattle.plants.specs.declared.change.Done.{Done}
 use Rattle.plants.specs.Changes.{with_tails, cpu_after, changed_by, plant_after}
-
-module _ (cpu : Cpu) (tsbs : Tsbs) (change : CpuChange) where
-  module _ (q : ℕ) (held : QueueRecord) (e : change ≡ CpuChange.Queue q held) where
-    pub cpu_queue : q < queue_limit → cpu_with_queue cpu q held ≡ cpu_after cpu tsbs change
-    unfolding cpu_after
-    cpu_queue h = rw (e, lt-ltb _ _ h)
-
-    pub cpu_no_queue : queue_limit ≤ q → cpu ≡ cpu_after cpu tsbs change
-    unfolding cpu_after
-    cpu_no_queue h = rw (e, le-ltb _ _ h)
-
-  pub cpu_ctx0 : change ≡ CpuChange.Ctx0 → cpu_with_ctx0 cpu tsbs ≡ cpu_after cpu tsbs change
-  unfolding cpu_after
-  cpu_ctx0 e = rw e
-
-  pub cpu_ctxnon0 : change ≡ CpuChange.Ctxnon0 → cpu_with_ctxnon0 cpu tsbs ≡ cpu_after cpu tsbs change
-  unfolding cpu_after
-  cpu_ctxnon0 e = rw e
-
-  pub cpu_statistics : (a : ℕ) → change ≡ CpuChange.Statistics a → cpu_with_statistics cpu a ≡ cpu_after cpu tsbs change
-  unfolding cpu_after
-  cpu_statistics a e = rw e
 
 module _ (plant : Plant) (d : Done) where
   pub after_nothing : d.change ≡ Change.Nothing → plant ≡ plant_after plant d

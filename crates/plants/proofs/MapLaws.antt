@@ -1,12 +1,13 @@
 -- A loop that makes a list anew in place: after i turns its first i elements are made.
-use mathlib.Core.Path.{◌≡◌, refl, sym, ap, ◌∙◌}
+use mathlib.Core.Path.{◌≡◌, refl, sym, ap}
 use mathlib.Core.List.{List, [], ◌∷◌, map}
-use Prim.Native.Nat.{ℕ, zero, suc, ◌+◌, ◌≤◌, ◌<◌}
+use Prim.Native.Nat.{ℕ, zero, suc, ◌+◌, ◌<◌}
 use native.Mathlib.Omega.{arith}
 use native.Mathlib.Numerals.{add-one}
+use denote.Param.Members.{Mut, Called}
+use Rattle.std.specs.Array.{IsMapOf}
+use Rattle.std.proofs.lemmas.List.{ext_get_or, get_or-map, length-map}
 use lib.ListN.{length, get_or, set}
-use Rattle.rules.specs.declared.Source.{Source}
-use Rattle.rules.specs.Versions.{disabled}
 use Rattle.plants.specs.Changes.{map_first}
 
 module _ {A : Type 0} where
@@ -24,13 +25,6 @@ module _ {A : Type 0} where
   -- l is the list before the loop, and s the one after i turns
   pub map_next : (f : ℕ → A → A) (l s : List A) (i : ℕ) (d : A) → s ≡ map_first f i l → set s i (f i (get_or s i d)) ≡ map_first f (i + 1) l
   map_next f l s i d e = rw (e, add-one) (step f d i l)
-
-  pub map_all : (f : A → A) (n : ℕ) (l : List A) → length l ≤ n → map_first (λ _. f) n l ≡ map f l
-  unfolding map_first
-  map_all f zero [] h = refl
-  map_all f (suc n) [] h = refl
-  map_all f zero (x ∷ l) h = absurd (omega arith)
-  map_all f (suc n) (x ∷ l) h = ap (λ (t : List A). f x ∷ t) (map_all f n l (omega arith))
 
   -- an element that is made anew stands where it stood
   pub map_read : (f : ℕ → A → A) (d : A) (n c : ℕ) (l : List A) → ((i : ℕ) → f i d ≡ d) → c < n → get_or (map_first f n l) c d ≡ f c (get_or l c d)
@@ -61,6 +55,9 @@ module _ {A : Type 0} where
   map_same f d (suc n) [] s = refl
   map_same f d (suc n) (x ∷ l) s = rw (s 0 (omega arith), map_same (λ i. f (suc i)) d n l (λ i h. s (suc i) (omega (arith, h))))
 
--- s is the list after all turns
-pub disabled_all : (l s : List Source) (i : ℕ) → s ≡ map_first (λ _. disabled) i l → length l ≤ i → s ≡ map disabled l
-disabled_all l s i e h = e ∙ map_all disabled i l h
+-- what an array's map gives, where each call of the closure gives h of its element
+pub mapped : {A B F : Type 0} (g : Mut F (A × Unit {0}) B) (h : A → B) (a : A) (b : B) (f : F) (xs : List A) (ys : List B) (n : ℕ) → IsMapOf g f xs ys n → length xs ≡ n
+    → ((p : F) (x : A) (y : B) (q : F) → Called g p (x, tt) y q → y ≡ h x) → ys ≡ map h xs
+mapped g h a b f xs ys n m e k =
+    ext_get_or b ys (map h xs) (simp length-map (omega (arith, m.long)))
+    (λ i l. let z = m.at i a b (omega (arith, m.long)) in rw (get_or-map h xs i a b (omega (arith, m.long))) (k _ _ _ _ z.2))

@@ -1,4 +1,5 @@
 -- A valid range ends below 2^64, since the numbers of an extent are those of its types.
+use Rattle.std.proofs.Common.{Some}
 use mathlib.Core.Path.{◌≡◌, refl}
 use mathlib.Core.Bool.{Bool, true, false, cond, false≢true}
 use mathlib.Core.List.{List, [], ◌∷◌}
@@ -12,7 +13,6 @@ use denote.Shadow.{shadow}
 use denote.Struct.Declared.{row}
 use Rattle.rules.specs.declared.Extent.{Extent}
 use Rattle.rules.specs.declared.Extents.{Extents}
-use Rattle.rules.specs.declared.Place.{Place}
 use Rattle.rules.specs.Real.{holds, host_offset, valid, located}
 use Rattle.rules.specs.contracts.Extent as one
 use Rattle.rules.specs.contracts.Extents as several
@@ -46,7 +46,7 @@ unfolding located
 reaches [] a h v = absurd (false≢true v)
 reaches (x ∷ xs) a h v = go (λ w. reaches xs a h.1 w) (holds x a) refl v
   where
-    go : (somewhere (located xs a) ≡ true → a + 1 < 2 ^ 64) → (t : Bool) → holds x a ≡ t → somewhere (cond t (Place.At (host_offset x (record { 0 = a }))) (located xs a)) ≡ true → a + 1 < 2 ^ 64
+    go : (somewhere (located xs a) ≡ true → a + 1 < 2 ^ 64) → (t : Bool) → holds x a ≡ t → somewhere (cond t (Some (host_offset x (record { 0 = a }))) (located xs a)) ≡ true → a + 1 < 2 ^ 64
     go ih true p q = omega (arith, h.0.0, h.0.1, holds_high x a p)
     go ih false p q = ih q
 

@@ -5,10 +5,8 @@ use Prim.Native.Nat.{ℕ, ◌+◌}
 use lib.ListN.{get_or}
 use Rattle.rules.specs.declared.Cpu.{Cpu}
 use Rattle.rules.specs.declared.Plant.{Plant}
-use Rattle.rules.specs.declared.QueueRecord.{QueueRecord}
-use Rattle.rules.specs.declared.Ring.{Ring}
-use Rattle.rules.specs.Kept.{hollow_cpu, cpu_at, with_cpu, with_tail}
-use Rattle.plants.specs.Changes.{at_tail, cpu_at_tail, map_first, with_tails}
+use Rattle.rules.specs.Kept.{hollow_cpu, cpu_at, with_cpu}
+use Rattle.plants.specs.Changes.{cpu_at_tail, map_first, with_tails}
 use Rattle.plants.proofs.MapLaws.{map_next}
 
 module _ (plant : Plant) (tails : List ℕ) where
@@ -31,12 +29,3 @@ module _ (plant : Plant) (tails : List ℕ) where
   pub tails_all : (next : Plant) (i : ℕ) → next ≡ tailed i → i ≡ plant.cpus → next ≡ with_tails plant tails
   unfolding with_tails
   tails_all next i e n = e ∙ ap tailed n
-
--- each arm of the ring's record
-pub tail_unset : (held : QueueRecord) (tail : ℕ) → held ≡ QueueRecord.Unset → QueueRecord.Unset ≡ at_tail held tail
-unfolding at_tail
-tail_unset held tail e = rw e
-
-pub tail_set : (held : QueueRecord) (tail : ℕ) (ring next : Ring) → held ≡ QueueRecord.Set ring → next ≡ with_tail ring tail → QueueRecord.Set next ≡ at_tail held tail
-unfolding at_tail
-tail_set held tail ring next e n = rw (e, n)

@@ -5,9 +5,7 @@ ghost use Rattle.rules.specs.Limits.{cpu_limit};
 ghost use Rattle.plants.specs.Changes.{done_by, cpu_after, plant_after};
 
 use crate::parts::{all_disabled, with_tails};
-use rules::{
-    Answer, CPUS, Cpu, Plant, QUEUES, Queue, QueueRecord, SOURCES, Source, Tsbs, Versions,
-};
+use rules::{Answer, CPUS, Cpu, Plant, QUEUES, QueueRecord, SOURCES, Source, Tsbs, Versions};
 
 // A queue's record, a TSB list, which stands beside it in Done, or the statistics address.
 #[derive(Clone, Copy)]
@@ -41,6 +39,7 @@ pub struct Done {
 }
 
 // An answer, and a change that no list and no tails belong to.
+#[tactic(auto, unfolding(crate::specs::Changes::done_by))]
 pub fn done_by(answer: Answer, change: Change) -> Done
     ensures { result ≡ done_by answer change }
 {
@@ -60,6 +59,7 @@ pub fn told(answer: Answer) -> Done
 }
 
 // A cpu's record after. A queue that is not there is not changed.
+#[tactic(auto, unfolding(crate::specs::Changes::cpu_after))]
 pub fn cpu_after(cpu: Cpu, change: CpuChange, tsbs: Tsbs) -> Cpu
     ensures { result ≡ cpu_after cpu tsbs change }
 {
@@ -67,7 +67,7 @@ pub fn cpu_after(cpu: Cpu, change: CpuChange, tsbs: Tsbs) -> Cpu
     match change {
         CpuChange::Queue(q, held) => {
             if q < QUEUES {
-                next.queue[q] = Queue { held };
+                next.queue[q].held = held;
             }
         }
         CpuChange::Ctx0 => next.ctx0 = tsbs,
@@ -78,26 +78,22 @@ pub fn cpu_after(cpu: Cpu, change: CpuChange, tsbs: Tsbs) -> Cpu
 }
 
 // The plant's record after. A place that is not there is not changed.
+#[tactic(auto, unfolding(crate::specs::Changes::plant_after, crate::specs::Changes::changed_by, rules::specs::Versions::all_disabled, rules::specs::Kept::with_source, rules::specs::Kept::with_queue, crate::specs::Changes::cpu_after))]
 pub fn plant_after(plant: Plant, done: Done) -> Plant
     requires { plant.cpus ≤ cpu_limit }
     ensures { result ≡ plant_after plant done }
 {
-    let change = done.change;
-    let tsbs = done.tsbs;
     let mut next = plant;
-    match change {
+    match done.change {
         Change::Nothing => {}
         Change::Versions(v) => next.versions = v,
         Change::Disabled(v) => {
             next.versions = v;
-            let source = next.source;
-            let off = all_disabled(source);
-            next.source = off;
+            next.source = all_disabled(plant.source);
         }
         Change::Cpu(c, part) => {
             if c < CPUS {
-                let cpu = next.cpu[c];
-                next.cpu[c] = cpu_after(cpu, part, tsbs);
+                next.cpu[c] = cpu_after(plant.cpu[c], part, done.tsbs);
             }
         }
         Change::Source(i, s) => {
@@ -106,18 +102,12 @@ pub fn plant_after(plant: Plant, done: Done) -> Plant
             }
         }
         Change::Delivered(i, s, c, held) => {
-            if i < SOURCES {
-                if c < CPUS {
-                    next.source[i] = s;
-                    let cpu = next.cpu[c];
-                    next.cpu[c] = cpu_after(cpu, CpuChange::Queue(1, held), tsbs);
-                }
+            if i < SOURCES && c < CPUS {
+                next.source[i] = s;
+                next.cpu[c] = cpu_after(plant.cpu[c], CpuChange::Queue(1, held), done.tsbs);
             }
         }
-        Change::Tails => {
-            let tails = done.tails;
-            return with_tails(next, tails);
-        }
+        Change::Tails => return with_tails(plant, done.tails),
     }
     next
 }

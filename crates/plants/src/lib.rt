@@ -8,4 +8,4 @@ mod rings;
 
 pub use change::{Change, CpuChange, Done, cpu_after, done_by, plant_after, told};
 pub use parts::{all_disabled, at_tail, cpu_at_tail};
-pub use rings::{Put, put_entry};
+pub use rings::put_entry;

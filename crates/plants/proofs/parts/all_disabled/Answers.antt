@@ -1,14 +1,9 @@
--- `plants::parts::all_disabled` meets its contract: after i turns of the loop the first i sources are disabled.
-use native.Mathlib.Omega.{arith}
+-- `plants::parts::all_disabled` meets its contract: each call of the closure gives a source disabled.
+use Rattle.rules.specs.Kept.{blank_source}
+use Rattle.std.proofs.Common.{arith, rules}
 use Rattle.rules.specs.Versions.{disabled}
-use Rattle.plants.proofs.MapLaws.{map_none, map_next, disabled_all}
+use Rattle.plants.proofs.MapLaws.{mapped}
 use Rattle.plants.proofs.parts.all_disabled.Goals as goal
 
-pub loop-i-init : goal.loop-i-init
-loop-i-init c = (omega arith, map_none _ _)
-
-pub loop-i-preserved : goal.loop-i-preserved
-loop-i-preserved c = let l = c.loop-i in (omega arith, map_next (λ _. disabled) _ _ _ _ l.invariant.1)
-
 pub returns : goal.returns
-returns c = let l = c.loop-i in disabled_all _ _ _ l.invariant.1 (omega arith)
+returns c = mapped _ disabled blank_source blank_source _ _ _ _ c.map.ensures.items (omega arith) (λ p x y q k. search rules)
