@@ -1,8 +1,10 @@
 -- Laws of the rows of bits: how long each is, and how putting a row goes part by part.
 use Rattle.std.specs.Prelude.{if◌then◌else◌}
+use mathlib.Core.Bool.{Bool, true, false}
 use mathlib.Core.Path.{◌≡◌, refl, sym, ap, ◌∙◌}
 use mathlib.Core.List.{List, ◌++◌}
 use Prim.Native.Nat.{ℕ, zero, suc, ◌+◌, ◌*◌, ◌≤◌}
+use mir.Val.{bool_byte}
 use native.Mathlib.Nat.{add-zero, add-suc}
 use native.Mathlib.Numerals.{add-one}
 use native.Mathlib.Omega.{arith}
@@ -52,11 +54,15 @@ pub put_same_length : (s t : List ℕ) (at : ℕ) (l : List ℕ) → t ≡ put_b
 put_same_length s t at l e = ap length e ∙ put_length s at l
 
 -- a source's third field is 1 or 0
+bit_of : (t : Bool) → bool_byte t ≡ (if t then 1 else 0)
+bit_of true = refl
+bit_of false = refl
+
 pub source_put : (x : Source) (s t u v : List ℕ) (at w : ℕ) → t ≡ put_bits s at (bits_of devhandle_width x.devhandle)
-    → u ≡ put_bits t (at + devhandle_width) (bits_of devino_width x.devino) → w ≡ (if x.cookies then 1 else 0)
+    → u ≡ put_bits t (at + devhandle_width) (bits_of devino_width x.devino) → w ≡ bool_byte x.cookies
     → v ≡ put_bits u (at + (devhandle_width + devino_width)) (bits_of cookie_support_width w) → v ≡ put_bits s at (source_row x)
 unfolding source_row
-source_put x s t u v at w p q e r = rw (sym e) (put_three _ _ _ _ _ _ s t u v at p q r)
+source_put x s t u v at w p q e r = rw (sym (e ∙ bit_of x.cookies)) (put_three _ _ _ _ _ _ s t u v at p q r)
 
 -- rows one behind the other
 pub each_length : (f : ℕ → List ℕ) (bits : ℕ) → ((i : ℕ) → length (f i) ≡ bits) → (k : ℕ) → length (each_below k f) ≡ bits * k

@@ -1,15 +1,16 @@
 -- What tables that keep the rules give a writer, and the answers of writing.
+use Rattle.std.proofs.Common.{Ok, Err}
 use mathlib.Core.Path.{◌≡◌, sym, ◌∙◌}
-use mathlib.Core.Bool.{Bool, true, false, not}
+use mathlib.Core.Bool.{true, false}
 use mathlib.Core.List.{List, ◌++◌}
-use Prim.Native.Nat.{ℕ, ◌+◌, ◌-◌, ◌*◌, ◌/◌, ◌<◌, ◌≤◌}
+use Prim.Native.Nat.{ℕ, ◌+◌, ◌-◌, ◌*◌, ◌<◌, ◌≤◌}
 use native.Mathlib.Omega.{arith}
+use Rattle.std.specs.Int.{div_ceil}
 use lib.Dec.{leb}
 use lib.ListN.{length, get_or, drop}
-use borrow.Author.Tests.{not-true, not-false, le-leb, lt-leb}
+use borrow.Author.Tests.{le-leb, lt-leb}
 use Rattle.rules.specs.declared.Tables.{Tables}
 use Rattle.rules.specs.declared.WriteRefusal.{WriteRefusal}
-use Rattle.rules.specs.declared.Writing.{Writing}
 use Rattle.rules.specs.Kept.{guest_at}
 use Rattle.rules.specs.Limits.{extent_limit, source_limit}
 use Rattle.rules.specs.Scan.{each_below}
@@ -53,42 +54,34 @@ image_put : (tables : Tables) (s t u : List ℕ) → ((i : ℕ) → get_or s i 0
 unfolding image_of
 image_put tables s t u bytes l a b = image_row_lem tables s t u a b ∙ put_packed s bytes (image_row tables) l
 
-pub keeps : (tables : Tables) (k : Bool) → k ≡ keep_rules tables → not k ≡ false → keep_rules tables ≡ true
-keeps tables k e h = sym e ∙ not-false k h
-
--- the answers, in order; k is what the rule on tables said
-module _ (tables : Tables) (s : List ℕ) (k : Bool) (e : k ≡ keep_rules tables) where
-  pub write_bad : not k ≡ true → (Writing.Refused WriteRefusal.BadTables ≡ (write_image tables s).answer) × (s ≡ (write_image tables s).buffer)
+-- the answers, in order
+module _ (tables : Tables) (s : List ℕ) where
+  pub write_bad : keep_rules tables ≡ false → (Err WriteRefusal.BadTables ≡ (write_image tables s).answer) × (s ≡ (write_image tables s).buffer)
   unfolding write_image write_rule
-  write_bad h =
-      let no : keep_rules tables ≡ false = sym e ∙ not-true k h in
-      (rw no, rw no)
+  write_bad broken = (rw broken, rw broken)
 
-  module _ (h : not k ≡ false) where
-    kept : keep_rules tables ≡ true
-    kept = keeps tables k e h
-
-    pub write_none : tables.guests < 1 → (Writing.Refused WriteRefusal.NoGuest ≡ (write_image tables s).answer) × (s ≡ (write_image tables s).buffer)
+  module _ (kept : keep_rules tables ≡ true) where
+    pub write_none : tables.guests < 1 → (Err WriteRefusal.NoGuest ≡ (write_image tables s).answer) × (s ≡ (write_image tables s).buffer)
     unfolding write_image write_rule
     write_none l =
         let none : leb 1 tables.guests ≡ false = lt-leb 1 tables.guests l in
         (rw (kept, none), rw (kept, none))
 
-    module _ (some : 1 ≤ tables.guests) (end : ℕ) (q : end ≡ length (image_row tables)) where
-      n_is : length (image_of tables) ≡ (end + 7) / 8
+    module _ (some : 1 ≤ tables.guests) (end : ℕ) (q : end ≡ length (image_row tables)) (n : ℕ) (c : n ≡ div_ceil end 8) where
+      n_is : length (image_of tables) ≡ n
       unfolding image_of
-      n_is = rw q (packed_length (image_row tables))
+      n_is = omega (arith, packed_length (image_row tables))
 
-      pub write_short : length s < (end + 7) / 8 → (Writing.Refused WriteRefusal.ShortBuffer ≡ (write_image tables s).answer) × (s ≡ (write_image tables s).buffer)
+      pub write_short : length s < n → (Err WriteRefusal.ShortBuffer ≡ (write_image tables s).answer) × (s ≡ (write_image tables s).buffer)
       unfolding write_image write_rule
       write_short l =
           let there : leb 1 tables.guests ≡ true = le-leb 1 tables.guests some in
           let short : leb (length (image_of tables)) (length s) ≡ false = lt-leb (length (image_of tables)) (length s) (rw n_is l) in
           (rw (kept, there, short), rw (kept, there, short))
 
-      pub write_done : (t u : List ℕ) → (end + 7) / 8 ≤ length s → ((i : ℕ) → get_or s i 0 < 256) → t ≡ put_bits s 0 (header_row tables)
+      pub write_done : (t u : List ℕ) → n ≤ length s → ((i : ℕ) → get_or s i 0 < 256) → t ≡ put_bits s 0 (header_row tables)
           → u ≡ put_bits t header_bits (each_below tables.guests (λ g. guest_row (guest_at tables g)))
-          → (Writing.Written ((end + 7) / 8) ≡ (write_image tables s).answer) × (u ≡ (write_image tables s).buffer)
+          → (Ok n ≡ (write_image tables s).answer) × (u ≡ (write_image tables s).buffer)
       unfolding write_image write_rule
       write_done t u l bytes a b =
           let there : leb 1 tables.guests ≡ true = le-leb 1 tables.guests some in

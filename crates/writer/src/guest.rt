@@ -1,5 +1,5 @@
 // A guest's part of the image: its three counts, then its extents and its sources.
-ghost use Rattle.std.specs.Prelude.{◌≡◌, ◌+◌, ◌*◌, ◌^◌, ◌<◌, ◌≤◌, length, if◌then◌else◌};
+ghost use Rattle.std.specs.Prelude.{◌≡◌, ◌+◌, ◌*◌, ◌^◌, ◌<◌, ◌≤◌, length};
 ghost use Rattle.rules.specs.Kept.{extent_at, source_at};
 ghost use Rattle.rules.specs.Limits.{extent_limit, source_limit};
 ghost use Rattle.rules.specs.Scan.{each_below};
@@ -24,13 +24,6 @@ fn put_extent(out: &mut [u8], at: u64, x: Extent)
     bits::put_field(out, at + HOST_PAGE_AT, HOST_PAGE_WIDTH, x.host as u64);
 }
 
-// Cookie support as the image has it.
-fn support(s: Source) -> u64
-    ensures { result ≡ (if s.cookies then 1 else 0) }
-{
-    if s.cookies { 1 } else { 0 }
-}
-
 // A source from bit `at` on: devhandle 28 bits, devino 7, cookie support 1.
 fn put_source(out: &mut [u8], at: u64, s: Source)
     requires { (at < 2 ^ 32) × (at + source_bits ≤ 8 * length out.old) }
@@ -42,7 +35,7 @@ fn put_source(out: &mut [u8], at: u64, s: Source)
         out,
         at + COOKIE_SUPPORT_AT,
         COOKIE_SUPPORT_WIDTH,
-        support(s),
+        u64::from(s.cookies),
     );
 }
 
@@ -71,12 +64,8 @@ fn put_extents(out: &mut [u8], at: u64, e: Extents)
     requires { (at < 2 ^ 31) × (e.extents ≤ extent_limit) × (at + extent_bits * e.extents ≤ 8 * length out.old) }
     ensures { out.new ≡ put_bits out.old at (each_below e.extents (λ i. extent_row (extent_at e i))) }
 {
-    let list = e.extent;
-    let k = e.extents;
-    let mut i: u8 = 0;
-    while i < k {
-        put_extent(out, at + EXTENT_BITS * (i as u64), list[i as usize]);
-        i += 1;
+    for (i, x) in e.extent[..e.extents as usize].iter().enumerate() {
+        put_extent(out, at + EXTENT_BITS * (i as u64), *x);
     }
 }
 
@@ -85,12 +74,8 @@ fn put_sources(out: &mut [u8], at: u64, plant: Plant)
     requires { (at < 2 ^ 31) × (plant.sources ≤ source_limit) × (at + source_bits * plant.sources ≤ 8 * length out.old) }
     ensures { out.new ≡ put_bits out.old at (each_below plant.sources (λ i. source_row (source_at plant i))) }
 {
-    let list = plant.source;
-    let k = plant.sources;
-    let mut i: u8 = 0;
-    while i < k {
-        put_source(out, at + SOURCE_BITS * (i as u64), list[i as usize]);
-        i += 1;
+    for (i, s) in plant.source[..plant.sources as usize].iter().enumerate() {
+        put_source(out, at + SOURCE_BITS * (i as u64), *s);
     }
 }
 
@@ -109,13 +94,11 @@ pub(crate) fn put_guest(out: &mut [u8], at: u64, guest: Guest)
     requires guest_bound { at + length (guest_row guest) ≤ 8 * length out.old }
     ensures { out.new ≡ put_bits out.old at (guest_row guest) }
 {
-    let extents = guest.extents;
-    let plant = guest.plant;
     put_counts(out, at, guest);
-    put_extents(out, at + COUNTS_BITS, extents);
+    put_extents(out, at + COUNTS_BITS, guest.extents);
     put_sources(
         out,
-        at + COUNTS_BITS + EXTENT_BITS * (extents.extents as u64),
-        plant,
+        at + COUNTS_BITS + EXTENT_BITS * (guest.extents.extents as u64),
+        guest.plant,
     );
 }

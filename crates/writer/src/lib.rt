@@ -13,20 +13,16 @@ ghost use Rattle.rules.specs.Writing.{guest_row, header_row, image_row, write_im
 ghost use Rattle.bits.specs.Put.{put_bits};
 
 use rules::widths::{EDITION_WIDTH, GUESTS_AT, GUESTS_WIDTH, HEADER_BITS};
-use rules::{Tables, WriteRefusal, Writing};
+use rules::{Tables, WriteRefusal};
 
 // How many bits the image of the tables has.
 fn image_bits(tables: Tables) -> u64
     requires { tables.guests ≤ guest_limit }
     ensures { (result ≡ length (image_row tables)) × (header_bits ≤ result) × (result < 2 ^ 32) }
 {
-    let guests = tables.guest;
-    let n = tables.guests;
     let mut at: u64 = HEADER_BITS;
-    let mut i: u8 = 0;
-    while i < n {
-        at = at + guest::guest_bits(guests[i as usize]);
-        i += 1;
+    for guest in &tables.guest[..tables.guests as usize] {
+        at += guest::guest_bits(*guest);
     }
     at
 }
@@ -46,36 +42,28 @@ fn put_guests(out: &mut [u8], tables: Tables)
     requires tables_len_bound { length (image_row tables) ≤ 8 * length out.old }
     ensures { out.new ≡ put_bits out.old header_bits (each_below tables.guests (λ g. guest_row (guest_at tables g))) }
 {
-    let guests = tables.guest;
-    let n = tables.guests;
     let mut at: u64 = HEADER_BITS;
-    let mut i: u8 = 0;
-    while i < n {
-        let guest = guests[i as usize];
-        guest::put_guest(out, at, guest);
-        at = at + guest::guest_bits(guest);
-        i += 1;
+    for guest in &tables.guest[..tables.guests as usize] {
+        guest::put_guest(out, at, *guest);
+        at += guest::guest_bits(*guest);
     }
 }
 
 // Writes the image of the tables to the front of out. Each refusal answers before a byte is written.
-pub fn write_image(tables: Tables, out: &mut [u8]) -> Writing
+pub fn write_image(tables: Tables, out: &mut [u8]) -> Result<usize, WriteRefusal>
     ensures { (result ≡ (write_image tables out.old).answer) × (out.new ≡ (write_image tables out.old).buffer) }
 {
-    let kept = tables::keep_rules(tables);
-    let guests = tables.guests;
-    if !kept {
-        return Writing::Refused(WriteRefusal::BadTables);
+    if !tables::keep_rules(tables) {
+        return Err(WriteRefusal::BadTables);
     }
-    if guests < 1 {
-        return Writing::Refused(WriteRefusal::NoGuest);
+    if tables.guests < 1 {
+        return Err(WriteRefusal::NoGuest);
     }
-    let end = image_bits(tables);
-    let n = ((end + 7) / 8) as usize;
+    let n = image_bits(tables).div_ceil(8) as usize;
     if out.len() < n {
-        return Writing::Refused(WriteRefusal::ShortBuffer);
+        return Err(WriteRefusal::ShortBuffer);
     }
     put_header(out, tables);
     put_guests(out, tables);
-    Writing::Written(n)
+    Ok(n)
 }

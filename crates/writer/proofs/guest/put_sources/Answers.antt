@@ -1,13 +1,19 @@
 -- `guest::put_sources` meets its contract: before each turn the first i are put.
 use native.Mathlib.Omega.{arith}
+use Prim.Native.Nat.{◌<◌}
+use Rattle.std.proofs.lemmas.List.{get_or-take}
+use Rattle.rules.specs.Kept.{blank_source}
 use Rattle.rules.specs.Widths.{source_bits}
-use Rattle.writer.proofs.RowLaws.{source_length, each_put_start, each_put_same}
+use Rattle.writer.proofs.RowLaws.{source_length, each_put_start, each_put_same, each_put_end}
 use Rattle.writer.proofs.guest.put_sources.Goals as goal
 
 pub loop-i-init : goal.loop-i-init
-loop-i-init c = (omega arith, each_put_start _ _ _)
+loop-i-init c = each_put_start _ _ _
 
 pub loop-i-preserved : goal.loop-i-preserved
 loop-i-preserved c =
-    let l = c.loop-i in
-    (omega arith, each_put_same _ _ _ _ _ l.invariant.1 source_bits (λ j. source_length _) _ c.put_source.ensures)
+    let here : c.loop-i.i < c.args.plant.sources = omega arith in
+    each_put_same _ _ _ _ _ c.loop-i.invariant source_bits (λ j. source_length _) _ (rw (get_or-take c.args.plant.sources c.args.plant.source c.loop-i.i blank_source here) at c.put_source.ensures)
+
+pub returns : goal.returns
+returns c = each_put_end _ _ _ _ _ c.loop-i.invariant _ (omega arith) (omega arith)
