@@ -63,8 +63,8 @@ pub fn range_valid(e: Extents, base: u64, len: u64) -> bool
     requires { e.extents ≤ extent_limit }
     ensures { result ≡ valid (present e) base len }
 {
-    let own = reached(e, base) - base;
-    len <= own
+    let at = reached(e, base);
+    len <= at - base
 }
 
 // A run of host bytes: where it starts, and how many there are.

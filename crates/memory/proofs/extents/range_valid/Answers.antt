@@ -4,9 +4,9 @@ use Rattle.memory.specs.Ready.{present}
 use Rattle.memory.proofs.Reached.{reach_from, valid_is}
 use Rattle.memory.proofs.extents.range_valid.Goals as goal
 
-pub overflow_sub-own : goal.overflow_sub-own
-overflow_sub-own c =
-    omega (arith, c.reached.ensures, reach_from (present c.args.e) c.args.base)
+pub overflow_sub-result : goal.overflow_sub-result
+overflow_sub-result c =
+    omega (arith, c.reached-at.ensures, reach_from (present c.args.e) c.args.base)
 
 pub returns : goal.returns
 returns c = search valid_is
