@@ -1,7 +1,8 @@
 -- A guest's answers, and what each tells.
+use Rattle.std.proofs.Common.{Ok, Err}
 use borrow.Author.Tests.{le-leb, lt-leb}
 use mathlib.Core.Bool.{Bool, true, false}
-use mathlib.Core.Path.{◌≡◌, refl, sym, ap, ◌∙◌}
+use mathlib.Core.Path.{◌≡◌, refl, sym, ap}
 use mathlib.Core.List.{List}
 use Prim.Native.Nat.{ℕ, ◌+◌, ◌*◌, ◌/◌, ◌<◌, ◌≤◌}
 use native.Mathlib.Omega.{arith}
@@ -11,40 +12,33 @@ use Rattle.rules.specs.declared.Extent.{Extent}
 use Rattle.rules.specs.declared.Source.{Source}
 use Rattle.rules.specs.declared.Versions.{Versions}
 use Rattle.rules.specs.declared.Guest.{Guest}
-use Rattle.rules.specs.declared.ImageRefusal.{ImageRefusal}
 use Rattle.rules.specs.declared.ImageRefusal.TheVariants.{ImageShort, HeaderOrCount}
 use Rattle.rules.specs.Limits.{cpu_limit, extent_limit, source_limit}
-use Rattle.rules.specs.Kept.{blank_extent, blank_source, blank_cpu, blank_guest, no_versions}
+use Rattle.rules.specs.Kept.{blank_extent, blank_source, blank_cpu, no_versions}
 use Rattle.rules.specs.Bits.{reaches}
 use Rattle.rules.specs.Rulings.{RulingBy, refused, granted, ◌or_refuse◌then◌, ◌grants◌}
 use Rattle.rules.specs.Widths.{cpus_width, extents_width, sources_width, counts_bits, header_bits, extent_bits, source_bits}
 use Rattle.rules.specs.Image.{Reading, ◌bits_at◌of◌from◌to◌else◌, read_extent, read_source, filled, read_lists, read_guest, behind}
-use Rattle.image.specs.declared.guest.Count.{Count}
-use Rattle.image.specs.declared.guest.Verdict.{Verdict}
-use Rattle.image.specs.declared.guest.GuestRead.{GuestRead}
-use Rattle.image.specs.Answers.{verdict_of, granted_or, count_as, guest_as}
-use Rattle.image.proofs.CountLaws.{is_tells, refused_tells, count_most}
+use Rattle.image.specs.Answers.{result_of}
+use Rattle.image.proofs.CountLaws.{granted_by, count_most}
 
 -- the lists
 module _ (s : List ℕ) (at cpus extents sources end : ℕ) (p : end ≡ at + extent_bits * extents + source_bits * sources) where
-  pub lists_short : (r : GuestRead) → r ≡ guest_as (refused ImageShort) → length s < (end + 7) / 8 → r ≡ guest_as (read_lists s at cpus extents sources)
+  pub lists_short : length s < (end + 7) / 8 → Err ImageShort ≡ result_of (read_lists s at cpus extents sources)
   unfolding read_lists
-  lists_short r n h =
+  lists_short h =
       let l : 8 * length s < at + extent_bits * extents + source_bits * sources = omega arith in
-      rw (lt-leb (at + extent_bits * extents + source_bits * sources) (8 * length s) l) n
+      rw (lt-leb (at + extent_bits * extents + source_bits * sources) (8 * length s) l)
 
   pub lists_read : (x : List Extent) (y : List Source) (v : Versions) (c : List Cpu)
       → x ≡ filled extent_limit blank_extent (λ i. read_extent s (at + extent_bits * i)) extents
       → y ≡ filled source_limit blank_source (λ i. read_source s (at + extent_bits * extents + source_bits * i)) sources
       → v ≡ no_versions → c ≡ replicate cpu_limit blank_cpu → (end + 7) / 8 ≤ length s
-      → record {
-        verdict = Verdict.Granted;
-        guest = record {
-          extents = record { extents = extents; extent = x };
-          plant = record { versions = v; cpus = cpus; cpu = c; sources = sources; source = y };
-        };
-      } ≡ guest_as (read_lists s at cpus extents sources)
-  unfolding read_lists guest_as
+      → Ok (record {
+        extents = record { extents = extents; extent = x };
+        plant = record { versions = v; cpus = cpus; cpu = c; sources = sources; source = y };
+      }) ≡ result_of (read_lists s at cpus extents sources)
+  unfolding read_lists
   lists_read x y v c a b d e h =
       let l : at + extent_bits * extents + source_bits * sources ≤ 8 * length s = omega arith in
       rw (le-leb (at + extent_bits * extents + source_bits * sources) (8 * length s) l, a, b, d, e)
@@ -58,45 +52,6 @@ extents_read s g at = extents_width bits_at (at + cpus_width) of s from 1 to ext
 
 abbrev pub sources_read : List ℕ → ℕ → ℕ → Reading ℕ
 sources_read s g at = sources_width bits_at (at + (cpus_width + extents_width)) of s from 0 to source_limit else HeaderOrCount g
-
-module _ (s : List ℕ) (n at : ℕ) (r : GuestRead) (a : Count) (p : a ≡ count_as (cpus_read s n at)) where
-  pub guest_cpus : (why : ImageRefusal) → r ≡ guest_as (refused why) → a ≡ Count.Refused why → r ≡ guest_as (read_guest s n at)
-  unfolding read_guest
-  guest_cpus why o m = rw (refused_tells a (cpus_read s n at) why p m) o
-
-  module _ (x : ℕ) (m₁ : a ≡ Count.Is x) (b : Count) (q : b ≡ count_as (extents_read s n at)) where
-    pub guest_extents : (why : ImageRefusal) → r ≡ guest_as (refused why) → b ≡ Count.Refused why → r ≡ guest_as (read_guest s n at)
-    unfolding read_guest
-    guest_extents why o m = rw (is_tells a (cpus_read s n at) x p m₁, refused_tells b (extents_read s n at) why q m) o
-
-    module _ (y : ℕ) (m₂ : b ≡ Count.Is y) (c : Count) (t : c ≡ count_as (sources_read s n at)) where
-      pub guest_sources : (why : ImageRefusal) → r ≡ guest_as (refused why) → c ≡ Count.Refused why → r ≡ guest_as (read_guest s n at)
-      unfolding read_guest
-      guest_sources why o m =
-          rw (is_tells a (cpus_read s n at) x p m₁, is_tells b (extents_read s n at) y q m₂, refused_tells c (sources_read s n at) why t m) o
-
-      pub guest_lists : (z : ℕ) → c ≡ Count.Is z → r ≡ guest_as (read_lists s (at + counts_bits) x y z) → r ≡ guest_as (read_guest s n at)
-      unfolding read_guest
-      guest_lists z m o =
-          rw (is_tells a (cpus_read s n at) x p m₁, is_tells b (extents_read s n at) y q m₂, is_tells c (sources_read s n at) z t m) o
-
--- what a verdict tells of the ruling, for a guest as for the whole image
-pub refused_says : {A : Type 0} (m : Reading A) (v : Verdict) (why : ImageRefusal) → v ≡ verdict_of m → v ≡ Verdict.Refused why → m ≡ refused why
-refused_says (granted a) v why e t = cc
-refused_says (refused r) v why e t = cc
-
-pub granted_says : {A : Type 0} (m : Reading A) (v : Verdict) (other : A) → v ≡ verdict_of m → v ≡ Verdict.Granted → m ≡ granted (granted_or other m)
-granted_says (granted a) v other e t = refl
-granted_says (refused r) v other e t = cc
-
-module _ (r : GuestRead) (m : Reading Guest) (e : r ≡ guest_as m) where
-  pub guest_refused : (why : ImageRefusal) → r.verdict ≡ Verdict.Refused why → m ≡ refused why
-  unfolding guest_as
-  guest_refused why t = refused_says m r.verdict why (ap (λ (x : GuestRead). x.verdict) e) t
-
-  pub guest_granted : r.verdict ≡ Verdict.Granted → m ≡ granted r.guest
-  unfolding guest_as
-  guest_granted t = granted_says m r.verdict blank_guest (ap (λ (x : GuestRead). x.verdict) e) t ∙ ap (λ (x : GuestRead). granted x.guest) (sym e)
 
 -- what is granted at the end was granted on the way
 pub grants_tells : {R A B : Type 0} (m : RulingBy R A) (f : A → RulingBy R B) (b : B) → (m grants f) ≡ granted b → (a : A) × ((m ≡ granted a) × (f a ≡ granted b))
@@ -127,6 +82,6 @@ guest_small s n at g e =
 abbrev pub guest_bits : ℕ
 guest_bits = counts_bits + extent_bits * extent_limit + source_bits * source_limit
 
-pub behind_most : (s : List ℕ) (n at : ℕ) (r : GuestRead) → r ≡ guest_as (read_guest s n at) → r.verdict ≡ Verdict.Granted
-    → (b i : ℕ) → b ≡ behind at r.guest → at ≤ header_bits + guest_bits * i → b ≤ header_bits + guest_bits * (i + 1)
-behind_most s n at r e t b i q h = omega (arith, guest_small s n at r.guest (guest_granted r (read_guest s n at) e t))
+pub behind_most : (s : List ℕ) (n at : ℕ) (g : Guest) → Ok g ≡ result_of (read_guest s n at)
+    → (b i : ℕ) → b ≡ behind at g → at ≤ header_bits + guest_bits * i → b ≤ header_bits + guest_bits * (i + 1)
+behind_most s n at g e b i q h = omega (arith, guest_small s n at g (granted_by (read_guest s n at) g e))

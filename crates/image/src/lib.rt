@@ -4,147 +4,100 @@
 mod fill;
 mod guest;
 
-ghost use Rattle.std.specs.Prelude.{◌≡◌, ◌/◌, ◌%◌, ◌<◌};
-ghost use Rattle.rules.specs.Rulings.{refused};
-ghost use Rattle.rules.specs.Image.{read_header, read_fields, judged, loaded_as, load};
-ghost use Rattle.image.specs.Answers.{count_as, verdict_of, read_as};
+ghost use Rattle.std.specs.Prelude.{◌≡◌, ℕ, ◌/◌, ◌%◌, ◌<◌, MatchOption, ⊤};
+ghost use Rattle.rules.specs.declared.ImageRefusal.{ImageRefusal};
+ghost use Rattle.rules.specs.Rulings.{granted, ◌refuses◌then◌, ◌grants◌};
+ghost use Rattle.rules.specs.Image.{read_header, read_fields, judged, read_image, load};
+ghost use Rattle.image.specs.Answers.{Gives, result_of, read_of};
 
-use guest::{Count, Verdict};
+use partition::{named_before, out_of_order, shares_before, wrong_numbers};
 use records::blank;
 use rules::widths::{EDITION_WIDTH, GUESTS_AT, GUESTS_WIDTH, HEADER_BITS};
-use rules::{EXTENTS, Found, GUESTS, ImageRefusal, Loaded, Loading, SOURCES, Tables};
+use rules::{EXTENTS, GUESTS, ImageRefusal, Loaded, SOURCES, Tables};
 
-// What the fields of an image say: the tables, and the bit behind the last field. An image that is refused has no guest.
+// What the fields of an image say: the tables, and the bit behind the last field.
 #[derive(Clone, Copy)]
 struct Read {
-    pub verdict: Verdict,
     pub end: u64,
     pub tables: Tables,
 }
 
-fn read_refused(why: ImageRefusal) -> Read
-    ensures { result ≡ read_as (refused why) }
-{
-    Read {
-        verdict: Verdict::Refused(why),
-        end: 0,
-        tables: blank::no_guests(),
-    }
-}
-
 // Edition 1, and the number of guests. Of the header guest 0 is told.
-fn read_header(s: &[u8]) -> Count
-    ensures { result ≡ count_as (read_header s.now) }
+fn read_header(s: &[u8]) -> Result<u8, ImageRefusal>
+    ensures { result ≡ result_of (read_header s.now) }
 {
-    let edition = guest::read_count(s, 0, EDITION_WIDTH, 1, 1, 0);
-    match edition {
-        Count::Refused(why) => Count::Refused(why),
-        Count::Is(_) => guest::read_count(s, GUESTS_AT, GUESTS_WIDTH, 1, GUESTS as u8, 0),
-    }
+    guest::read_count(s, 0, EDITION_WIDTH, 1, 1, 0)?;
+    guest::read_count(s, GUESTS_AT, GUESTS_WIDTH, 1, GUESTS as u8, 0)
 }
 
 // Every field, in order, up to the first that is missing or outside its limits.
-fn read_fields(s: &[u8]) -> Read
-    ensures { result ≡ read_as (read_fields s.now) }
+fn read_fields(s: &[u8]) -> Result<Read, ImageRefusal>
+    ensures { result ≡ result_of (read_fields s.now grants read_of) }
 {
-    let header = read_header(s);
-    let guests = match header {
-        Count::Refused(why) => {
-            return read_refused(why);
-        }
-        Count::Is(n) => n,
-    };
+    let guests = read_header(s)?;
     let mut guest = blank::guests();
-    let mut at: u64 = HEADER_BITS;
-    let mut i: u8 = 0;
-    while i < guests {
-        let next = guest::read_guest(s, i, at);
-        let verdict = next.verdict;
-        if let Verdict::Refused(why) = verdict {
-            return read_refused(why);
-        }
-        let g = next.guest;
-        at = guest::behind(at, g.extents.extents, g.plant.sources);
-        guest[i as usize] = g;
-        i += 1;
+    let mut at = HEADER_BITS;
+    for i in 0..guests {
+        let next = guest::read_guest(s, i, at)?;
+        at = guest::behind(at, next.extents.extents, next.plant.sources);
+        guest[usize::from(i)] = next;
     }
-    Read {
-        verdict: Verdict::Granted,
+    Ok(Read {
         end: at,
         tables: Tables { guests, guest },
+    })
+}
+
+// What is found at place k on the host, where each guest has n places, refuses the image: the guest and the position there are told.
+fn refuse<F: Fn(u8, u8) -> ImageRefusal>(
+    found: Option<usize>,
+    n: usize,
+    why: F,
+) -> Result<(), ImageRefusal>
+    requires small { MatchOption found ⊤ (λ k. k < 256) }
+    requires some { 0 < n }
+    requires callable { F.IsAlwaysCallable why }
+    ensures { (status : ℕ → ℕ → ImageRefusal) → Gives (F.post why) status → result ≡ result_of (found refuses (λ k. status (k / n) (k % n)) then granted tt) }
+{
+    match found {
+        Some(k) => Err(why((k / n) as u8, (k % n) as u8)),
+        None => Ok(()),
     }
-}
-
-// The guest of place k on the host, where each guest has n places, and the position there.
-fn guest_of(k: usize, n: usize) -> u8
-    requires { (k < 256) × (0 < n) }
-    ensures { result ≡ k / n }
-{
-    (k / n) as u8
-}
-
-fn position_of(k: usize, n: usize) -> u8
-    requires { (k < 256) × (0 < n) }
-    ensures { result ≡ k % n }
-{
-    (k % n) as u8
 }
 
 // The rules that are tried after the last field, one after another, each over all guests.
-fn judge(s: &[u8], end: u64, tables: Tables) -> Verdict
-    ensures { result ≡ verdict_of (judged s.now end tables) }
+fn judge(s: &[u8], end: u64, tables: Tables) -> Result<Tables, ImageRefusal>
+    ensures { result ≡ result_of (judged s.now end tables) }
 {
-    let wrong = partition::wrong_numbers(tables);
-    if let Found::At(k) = wrong {
-        let g = guest_of(k, EXTENTS);
-        return Verdict::Refused(ImageRefusal::ExtentNumbers(g, position_of(k, EXTENTS)));
-    }
-    let low = partition::out_of_order(tables);
-    if let Found::At(k) = low {
-        let g = guest_of(k, EXTENTS);
-        return Verdict::Refused(ImageRefusal::ExtentOrder(g, position_of(k, EXTENTS)));
-    }
-    let shared = partition::shares_before(tables);
-    if let Found::At(k) = shared {
-        let g = guest_of(k, EXTENTS);
-        return Verdict::Refused(ImageRefusal::PagesShared(g, position_of(k, EXTENTS)));
-    }
-    let twice = partition::named_before(tables);
-    if let Found::At(k) = twice {
-        let g = guest_of(k, SOURCES);
-        return Verdict::Refused(ImageRefusal::SourceTwice(g, position_of(k, SOURCES)));
-    }
+    refuse(wrong_numbers(tables), EXTENTS, ImageRefusal::ExtentNumbers)?;
+    refuse(out_of_order(tables), EXTENTS, ImageRefusal::ExtentOrder)?;
+    refuse(shares_before(tables), EXTENTS, ImageRefusal::PagesShared)?;
+    refuse(named_before(tables), SOURCES, ImageRefusal::SourceTwice)?;
     if !fill::filled_out(s, end) {
-        return Verdict::Refused(ImageRefusal::FillOrBehind(tables.guests));
+        return Err(ImageRefusal::FillOrBehind(tables.guests));
     }
-    Verdict::Granted
+    Ok(tables)
 }
 
-fn load_refused(why: ImageRefusal) -> Loaded
-    ensures { result ≡ loaded_as (refused why) }
+fn read_image(s: &[u8]) -> Result<Tables, ImageRefusal>
+    ensures { result ≡ result_of (read_image s.now) }
 {
-    Loaded {
-        answer: Loading::Refused(why),
-        tables: blank::no_guests(),
-    }
+    let read = read_fields(s)?;
+    judge(s, read.end, read.tables)
 }
 
 // The tables of an image, or the refusal and tables with no guest.
 pub fn load(s: &[u8]) -> Loaded
     ensures { result ≡ load s.now }
 {
-    let read = read_fields(s);
-    let verdict = read.verdict;
-    if let Verdict::Refused(why) = verdict {
-        return load_refused(why);
-    }
-    let tables = read.tables;
-    let judged = judge(s, read.end, tables);
-    if let Verdict::Refused(why) = judged {
-        return load_refused(why);
-    }
-    Loaded {
-        answer: Loading::Accepted,
-        tables,
+    match read_image(s) {
+        Ok(tables) => Loaded {
+            answer: Ok(()),
+            tables,
+        },
+        Err(why) => Loaded {
+            answer: Err(why),
+            tables: blank::no_guests(),
+        },
     }
 }

@@ -1,46 +1,42 @@
 -- `judge` meets its contract: the rules one by one, in the order of the paper, and the place that each tells.
-use native.Mathlib.Omega.{arith}
-use Rattle.image.proofs.LoadLaws.{breaking_few, sharing_few, named_few, wrong_numbers, wrong_order, wrong_pages, wrong_sources, wrong_fill, all_right}
+use Rattle.rules.specs.declared.ImageRefusal.TheVariants.{ExtentNumbers, ExtentOrder, PagesShared, SourceTwice}
+use Rattle.rules.specs.Image.{judged}
+use Rattle.image.proofs.LoadLaws.{breaking_few, sharing_few, named_few, found_stops, found_passes, test_stops, test_passes}
+use borrow.Author.Rules.{rules}
 use Rattle.image.proofs.judge.Goals as goal
 
-pub guest_of-g-requires : goal.guest_of-g-requires
-guest_of-g-requires c = (search breaking_few, omega arith)
+pub refuse-requires-clause-small : goal.refuse-requires-clause-small
+refuse-requires-clause-small c = rw c.wrong_numbers.ensures (breaking_few _ _)
 
-pub position_of-requires : goal.position_of-requires
-position_of-requires c = (search breaking_few, omega arith)
+pub returns-in_err-refuse : goal.returns-in_err-refuse
+unfolding judged
+returns-in_err-refuse c = found_stops _ _ _ _ _ c.wrong_numbers.ensures _ c.from_residual.ensures.1 (c.in_err-refuse.ensures ExtentNumbers (λ g i r p. search rules))
 
-pub returns-in-At : goal.returns-in-At
-returns-in-At c = search wrong_numbers
+pub refuse-requires-2-clause-small : goal.refuse-requires-2-clause-small
+refuse-requires-2-clause-small c = rw c.out_of_order.ensures (breaking_few _ _)
 
-pub guest_of-g-requires-in-At-low : goal.guest_of-g-requires-in-At-low
-guest_of-g-requires-in-At-low c = (search breaking_few, omega arith)
+pub returns-in_err-refuse-2 : goal.returns-in_err-refuse-2
+unfolding judged
+returns-in_err-refuse-2 c = found_passes _ _ _ _ _ c.wrong_numbers.ensures _ (c.in_ok-refuse.ensures ExtentNumbers (λ g i r p. search rules)) (found_stops _ _ _ _ _ c.out_of_order.ensures _ c.from_residual-in_err-refuse-2.ensures.1 (c.in_err-refuse-2.ensures ExtentOrder (λ g i r p. search rules)))
 
-pub position_of-requires-in-At-low : goal.position_of-requires-in-At-low
-position_of-requires-in-At-low c = (search breaking_few, omega arith)
+pub refuse-requires-3-clause-small : goal.refuse-requires-3-clause-small
+refuse-requires-3-clause-small c = rw c.shares_before.ensures (sharing_few _)
 
-pub returns-in-At-low : goal.returns-in-At-low
-returns-in-At-low c = search wrong_order
+pub returns-in_err-refuse-3 : goal.returns-in_err-refuse-3
+unfolding judged
+returns-in_err-refuse-3 c = found_passes _ _ _ _ _ c.wrong_numbers.ensures _ (c.in_ok-refuse.ensures ExtentNumbers (λ g i r p. search rules)) (found_passes _ _ _ _ _ c.out_of_order.ensures _ (c.in_ok-refuse-2.ensures ExtentOrder (λ g i r p. search rules)) (found_stops _ _ _ _ _ c.shares_before.ensures _ c.from_residual-in_err-refuse-3.ensures.1 (c.in_err-refuse-3.ensures PagesShared (λ g i r p. search rules))))
 
-pub guest_of-g-requires-in-At-shared : goal.guest_of-g-requires-in-At-shared
-guest_of-g-requires-in-At-shared c = (search sharing_few, omega arith)
+pub refuse-requires-4-clause-small : goal.refuse-requires-4-clause-small
+refuse-requires-4-clause-small c = rw c.named_before.ensures (named_few _)
 
-pub position_of-requires-in-At-shared : goal.position_of-requires-in-At-shared
-position_of-requires-in-At-shared c = (search sharing_few, omega arith)
-
-pub returns-in-At-shared : goal.returns-in-At-shared
-returns-in-At-shared c = search wrong_pages
-
-pub guest_of-g-requires-in-At-twice : goal.guest_of-g-requires-in-At-twice
-guest_of-g-requires-in-At-twice c = (named_few _ _ _ c.in-At-twice.is c.named_before-twice.ensures, omega arith)
-
-pub position_of-requires-in-At-twice : goal.position_of-requires-in-At-twice
-position_of-requires-in-At-twice c = (named_few _ _ _ c.in-At-twice.is c.named_before-twice.ensures, omega arith)
-
-pub returns-in-At-twice : goal.returns-in-At-twice
-returns-in-At-twice c = search wrong_sources
+pub returns-in_err-refuse-4 : goal.returns-in_err-refuse-4
+unfolding judged
+returns-in_err-refuse-4 c = found_passes _ _ _ _ _ c.wrong_numbers.ensures _ (c.in_ok-refuse.ensures ExtentNumbers (λ g i r p. search rules)) (found_passes _ _ _ _ _ c.out_of_order.ensures _ (c.in_ok-refuse-2.ensures ExtentOrder (λ g i r p. search rules)) (found_passes _ _ _ _ _ c.shares_before.ensures _ (c.in_ok-refuse-3.ensures PagesShared (λ g i r p. search rules)) (found_stops _ _ _ _ _ c.named_before.ensures _ c.from_residual-in_err-refuse-4.ensures.1 (c.in_err-refuse-4.ensures SourceTwice (λ g i r p. search rules)))))
 
 pub returns-then-not-filled_out : goal.returns-then-not-filled_out
-returns-then-not-filled_out c = search wrong_fill
+unfolding judged
+returns-then-not-filled_out c = found_passes _ _ _ _ _ c.wrong_numbers.ensures _ (c.in_ok-refuse.ensures ExtentNumbers (λ g i r p. search rules)) (found_passes _ _ _ _ _ c.out_of_order.ensures _ (c.in_ok-refuse-2.ensures ExtentOrder (λ g i r p. search rules)) (found_passes _ _ _ _ _ c.shares_before.ensures _ (c.in_ok-refuse-3.ensures PagesShared (λ g i r p. search rules)) (found_passes _ _ _ _ _ c.named_before.ensures _ (c.in_ok-refuse-4.ensures SourceTwice (λ g i r p. search rules)) (test_stops _ _ _ c.if-not-filled_out.ensures))))
 
 pub returns : goal.returns
-returns c = search all_right
+unfolding judged
+returns c = found_passes _ _ _ _ _ c.wrong_numbers.ensures _ (c.in_ok-refuse.ensures ExtentNumbers (λ g i r p. search rules)) (found_passes _ _ _ _ _ c.out_of_order.ensures _ (c.in_ok-refuse-2.ensures ExtentOrder (λ g i r p. search rules)) (found_passes _ _ _ _ _ c.shares_before.ensures _ (c.in_ok-refuse-3.ensures PagesShared (λ g i r p. search rules)) (found_passes _ _ _ _ _ c.named_before.ensures _ (c.in_ok-refuse-4.ensures SourceTwice (λ g i r p. search rules)) (test_passes _ _ _ c.if-not-filled_out.ensures))))

@@ -1,12 +1,12 @@
--- `load` meets its contract: refused by a field, refused by the rules after the fields, or accepted.
-use Rattle.image.proofs.LoadLaws.{load_fields, load_bad, load_good}
+-- `load` meets its contract: refused, or accepted.
+use Rattle.rules.specs.Image.{read_image, load}
+use Rattle.image.proofs.CountLaws.{granted_by, refused_by}
 use Rattle.image.proofs.load.Goals as goal
 
-pub returns-in-Refused : goal.returns-in-Refused
-returns-in-Refused c = search load_fields
+pub returns-in-Ok : goal.returns-in-Ok
+unfolding load
+returns-in-Ok c = rw (granted_by (read_image _) _ c.in-Ok.ensures)
 
-pub returns-in-Refused-judged : goal.returns-in-Refused-judged
-returns-in-Refused-judged c = search load_bad
-
-pub returns : goal.returns
-returns c = search load_good
+pub returns-in-Err : goal.returns-in-Err
+unfolding load
+returns-in-Err c = rw (refused_by (read_image _) _ c.in-Err.ensures, c.no_guests.ensures)
