@@ -1,8 +1,6 @@
 -- Laws of the page index and the page mask.
 use mathlib.Core.Path.{◌≡◌, refl, sym, ◌∙◌}
-use mathlib.Core.Bool.{Bool, true, false, ◌&&◌, ◌||◌, false≢true}
-use mathlib.Core.List.{[], ◌∷◌}
-use mathlib.Core.Logic.{inl, inr, ⊎_elim}
+use mathlib.Core.Bool.{true, false, false≢true}
 use Prim.Native.Nat.{ℕ, zero, suc, ◌+◌, ◌*◌, ◌/◌, ◌%◌, ◌^◌, ◌≤◌, ◌<◌}
 use native.Mathlib.Omega.{arith}
 use native.Mathlib.Nat.{lt_of_not-le, pow-suc}
@@ -10,34 +8,20 @@ use native.Mathlib.Numerals.{add-one}
 use lib.Count.{count_trailing_zeros, under}
 use lib.Dec.{eqb, leb, eqb-zero-suc, eqb-suc-zero, eqb-suc-suc}
 use lib.Pow.{mod-pow-add}
-use borrow.Author.Tests.{eq-eqb, ne_eqb}
-use types.Run.{OneOf}
-use Rattle.rules.specs.Tsb.{is_page_index, is_lowest}
-use Rattle.rules.proofs.Tests.{eqb_same}
-use Rattle.records.specs.Masks.{mask_bit_right, lowest_index}
-
-module _ (k : ℕ) where
-  pub index_low : k < 2 → true ≡ is_page_index k
-  unfolding is_page_index
-  index_low h = go k h
-    where
-      go : (j : ℕ) → j < 2 → true ≡ ((eqb j 0 || eqb j 1) || (eqb j 3 || eqb j 5))
-      go zero l = refl
-      go (suc zero) l = refl
-      go (suc (suc j)) l = absurd (omega arith)
-
-  pub index_high : OneOf (3 ∷ 5 ∷ []) k → true ≡ is_page_index k
-  unfolding is_page_index
-  index_high h = ⊎_elim (λ e. rw (e)) (λ e. rw (e)) h
-
-  pub index_none : 2 ≤ k → (OneOf (3 ∷ 5 ∷ []) k → ⊥) → false ≡ is_page_index k
-  unfolding is_page_index
-  index_none h f =
-      rw (ne_eqb k 0 (λ e. omega arith), ne_eqb k 1 (λ e. omega arith), ne_eqb k 3 (λ e. f (inl e)), ne_eqb k 5 (λ e. f (inr e)))
+use lib.Bits.{bit_and}
+use borrow.Author.Tests.{eq-eqb, ne_eqb, eqb-true, leb-true, le-leb}
+use Rattle.std.specs.Int.{w32, bit_at, bit_not}
+use Rattle.std.proofs.lemmas.Nat.{and_le_r}
+use Rattle.std.proofs.lemmas.Nat.Bits.{bit_at_and, bit_at_not, bit_at-lt, bit_at-zero, same_from_bits_below}
+use Rattle.rules.specs.Tsb.{is_page_index, is_lowest, ◌is_inside◌}
+use Rattle.rules.proofs.Scan.{all_of, all_at}
+use Rattle.rules.proofs.Tests.{eqb_same, bool_same}
+use Rattle.records.specs.Masks.{lowest_index}
 
 -- no page index lies past the end of a mask
 index_below : (k : ℕ) → true ≡ is_page_index k → k < 32
-index_below k e = lt_of_not-le (λ h. false≢true (index_none k (omega arith) (⊎_elim (λ q. omega arith) (λ q. omega arith)) ∙ sym e))
+unfolding is_page_index
+index_below k e = lt_of_not-le (λ h. false≢true (rw (ne_eqb k 0 (λ q. omega arith), ne_eqb k 1 (λ q. omega arith), ne_eqb k 3 (λ q. omega arith), ne_eqb k 5 (λ q. omega arith)) at (sym e)))
 
 -- the lowest bit set in an even number is that of its half, one place up; in an odd one it is bit 0
 module _ (m k : ℕ) where
@@ -70,13 +54,30 @@ zeros_below (suc k) (suc d) m h = go (zeros_below k d (m / 2) (omega arith)) (m 
     go ih zero e = eqb-suc-suc k (count_trailing_zeros d (m / 2)) ∙ ih ∙ sym (lowest_even m k e)
     go ih (suc r) e = eqb-suc-zero k ∙ sym (lowest_odd m k (omega arith))
 
--- so a page index is the lowest bit set in a mask exactly if it is the count of zeros
-pub lowest_counted : (mask index : ℕ) (t : Bool) → t ≡ is_page_index index → (t && eqb index (count_trailing_zeros 32 mask)) ≡ lowest_index mask index
+-- so a page index, the number k, is the lowest bit set in a mask exactly if it is the count of zeros
+pub lowest_counted : (mask index k : ℕ) → is_page_index index ≡ true → k ≡ index → eqb k (count_trailing_zeros 32 mask) ≡ lowest_index mask index
 unfolding lowest_index
-lowest_counted mask index false p = rw (← p)
-lowest_counted mask index true p = rw (← p) (zeros_below index 32 mask (index_below index p))
+lowest_counted mask index k p q = rw (p, q) (zeros_below index 32 mask (index_below index (sym p)))
 
--- bit k of a mask, and of the allowed ones
-pub bits_compared : (mask k b a : ℕ) → b ≡ mask / 2 ^ k % 2 → a ≡ 0x2b / 2 ^ k % 2 → leb b a ≡ mask_bit_right mask k
-unfolding mask_bit_right
-bits_compared mask k b a p q = rw (p, q)
+-- A mask of 32 bits lies inside the allowed ones exactly if none of its bits is one of the others. Where it does, no bit of it is set
+-- that the others have,
+inside_none : (m a : ℕ) → a < 2 ^ 32 → (m is_inside a) ≡ true → bit_and m (bit_not w32 a) ≡ 0
+unfolding ◌is_inside◌
+inside_none m a w e =
+    same_from_bits_below 32 _ 0 (omega (arith, and_le_r m (bit_not w32 a))) (omega arith)
+    (λ i h.
+    let inside : bit_at m i ≤ bit_at a i = leb-true _ _ (all_at (λ k. leb (m / 2 ^ k % 2) (a / 2 ^ k % 2)) 32 i e h) in
+    omega (arith, bit_at_and m (bit_not w32 a) i, bit_at_not w32 a i w h, bit_at-lt m i, bit_at-lt a i, bit_at-zero i))
+
+-- and the other way
+none_inside : (m a : ℕ) → a < 2 ^ 32 → bit_and m (bit_not w32 a) ≡ 0 → (m is_inside a) ≡ true
+unfolding ◌is_inside◌
+none_inside m a w e =
+    all_of (λ k. leb (m / 2 ^ k % 2) (a / 2 ^ k % 2)) 32
+    (λ i h.
+    let none : bit_at (bit_and m (bit_not w32 a)) i ≡ 0 = rw e (bit_at-zero i) in
+    le-leb _ _ (omega (arith, bit_at_and m (bit_not w32 a) i, bit_at_not w32 a i w h, bit_at-lt m i, bit_at-lt a i)))
+
+pub inside_by_mask : (m : ℕ) → eqb (bit_and m 0xffff_ffd4) 0 ≡ (m is_inside 0x2b)
+inside_by_mask m =
+    bool_same _ _ (λ e. none_inside m 0x2b (omega arith) (eqb-true _ _ e)) (λ e. eq-eqb _ _ (inside_none m 0x2b (omega arith) e))

@@ -1,65 +1,56 @@
 -- Powers of two from a least to a most one.
 use mathlib.Core.Path.{◌≡◌, refl, sym, ◌∙◌}
-use mathlib.Core.Bool.{Bool, true, false, ◌&&◌, ◌||◌, not, and-false, false≢true}
-use mathlib.Core.List.{List, [], ◌∷◌}
-use mathlib.Core.Logic.{◌⊎◌, inl, inr, ⊎_elim}
-use Prim.Native.Nat.{ℕ, ◌*◌, ◌^◌, ◌≤◌, ◌<◌}
+use mathlib.Core.Bool.{Bool, true, false, ◌&&◌, false≢true}
+use Prim.Native.Nat.{ℕ, zero, suc, ◌+◌, ◌*◌, ◌/◌, ◌%◌, ◌^◌, ◌≤◌, ◌<◌}
 use native.Mathlib.Omega.{arith}
+use native.Mathlib.Nat.{pow-suc}
 use lib.Dec.{eqb, leb}
-use borrow.Author.Tests.{ne_eqb, eqb-true, leb-true, not-false}
-use types.Run.{OneOf}
-use Rattle.rules.specs.Scan.{some_below, all_below, ◌is_from◌to◌, power_of_two◌from◌to◌}
-use Rattle.rules.proofs.Scan.{none_of, all_at}
+use lib.Count.{ones_step}
+use borrow.Author.Tests.{eq-eqb, ne_eqb, eqb-true, leb-true}
+use Rattle.std.proofs.lemmas.Nat.{zero_from_ones, ones_le_self}
+use Rattle.std.specs.Int.{is_power_of_two}
+use Rattle.std.specs.Int.RustNames.{count_ones}
+use Rattle.rules.specs.Scan.{some_below, ◌is_from◌to◌, power_of_two◌from◌to◌}
+use Rattle.rules.proofs.Scan.{none_of, some_found}
 use Rattle.rules.proofs.Tests.{and_left, and_right}
 
--- A `match` on the powers of two from `least` to `most`, which are the numbers l, is the test `power_of_two◌from◌to◌`. That they are
--- the numbers of l is computed: each of them passes the test, and each power of two that lies between is among them.
-abbrev pub each : (ℕ → Bool) → List ℕ → Bool
-each p [] = true
-each p (x ∷ xs) = p x && each p xs
+-- a power of two has one bit set,
+ones_of_power : (k : ℕ) → count_ones (2 ^ k) ≡ 1
+ones_of_power zero = let s = ones_step 1 in omega (arith, ones_le_self 0)
+ones_of_power (suc k) =
+    let double : 2 ^ suc k ≡ 2 ^ k * 2 = pow-suc 2 k in
+    let half : 2 ^ suc k / 2 ≡ 2 ^ k = omega arith in
+    let even : 2 ^ suc k % 2 ≡ 0 = omega arith in
+    let rest : count_ones (2 ^ suc k / 2) ≡ 1 = rw half (ones_of_power k) in
+    omega (arith, ones_step (2 ^ suc k))
 
-abbrev pub among : List ℕ → ℕ → Bool
-among [] n = false
-among (x ∷ xs) n = eqb n x || among xs n
-
-each_one : (p : ℕ → Bool) (l : List ℕ) (n : ℕ) → each p l ≡ true → OneOf l n → p n ≡ true
-each_one p [] n e h = absurd h
-each_one p (x ∷ []) n e h = rw h (and_left (p x) true e)
-each_one p (x ∷ (y ∷ l)) n e h = ⊎_elim (λ q. rw q (and_left (p x) _ e)) (λ o. each_one p (y ∷ l) n (and_right (p x) _ e) o) h
-
-among_one : (l : List ℕ) (n : ℕ) → among l n ≡ true → OneOf l n
-among_one [] n e = absurd (false≢true e)
-among_one (x ∷ []) n e = go (eqb n x) refl e
+-- and a number of k bits with one bit set is one of the first k powers of two
+power_of_ones : (k n : ℕ) → n < 2 ^ k → count_ones n ≡ 1 → (j : ℕ) × (j < k) × (n ≡ 2 ^ j)
+power_of_ones zero n h e = absurd (omega (arith, ones_le_self n))
+power_of_ones (suc k) n h e = go (λ l q. power_of_ones k (n / 2) l q) (n % 2) refl
   where
-    go : (t : Bool) → eqb n x ≡ t → (t || false) ≡ true → n ≡ x
-    go true q f = eqb-true n x q
-    go false q f = absurd (false≢true f)
-among_one (x ∷ (y ∷ l)) n e = go (λ f. among_one (y ∷ l) n f) (eqb n x) refl e
+    step : count_ones n ≡ n % 2 + count_ones (n / 2)
+    step = ones_step n
+
+    go : (n / 2 < 2 ^ k → count_ones (n / 2) ≡ 1 → (j : ℕ) × (j < k) × (n / 2 ≡ 2 ^ j)) → (r : ℕ) → n % 2 ≡ r → (j : ℕ) × (j < suc k) × (n ≡ 2 ^ j)
+    go half zero q =
+        let found = half (omega (arith, pow-suc 2 k)) (omega (arith, step)) in
+        (suc found.0, omega (arith, found.1), omega (arith, found.2, pow-suc 2 found.0))
+    go half (suc r) q = (0, omega arith, omega (arith, zero_from_ones (n / 2) (omega (arith, step))))
+
+one_of : (n : ℕ) → n < 2 ^ 64 → is_power_of_two n ≡ some_below 64 (λ k. eqb n (2 ^ k))
+one_of n h = go (is_power_of_two n) refl
   where
-    go : (among (y ∷ l) n ≡ true → OneOf (y ∷ l) n) → (t : Bool) → eqb n x ≡ t → (t || among (y ∷ l) n) ≡ true → (n ≡ x) ⊎ OneOf (y ∷ l) n
-    go rest true q f = inl (eqb-true n x q)
-    go rest false q f = inr (rest f)
+    go : (t : Bool) → is_power_of_two n ≡ t → t ≡ some_below 64 (λ k. eqb n (2 ^ k))
+    go true e =
+        let found = power_of_ones 64 n h (eqb-true _ _ e) in
+        some_found (λ k. eqb n (2 ^ k)) found.0 64 true found.1 (sym (eq-eqb _ _ found.2)) refl
+    go false e = sym (none_of (λ k. eqb n (2 ^ k)) 64 (λ k w. ne_eqb _ _ (λ q. false≢true (sym e ∙ eq-eqb _ _ (rw q (ones_of_power k))))))
 
-module _ (least most : ℕ) (l : List ℕ) where
-  pub is_power : each (λ k. power_of_two k from least to most) l ≡ true → (n : ℕ) → OneOf l n → (power_of_two n from least to most) ≡ true
-  is_power e n h = each_one (λ k. power_of_two k from least to most) l n e h
-
-  pub is_none : all_below 64 (λ k. not (2 ^ k is_from least to most) || among l (2 ^ k)) ≡ true → (n : ℕ) → (OneOf l n → ⊥) → (power_of_two n from least to most) ≡ false
-  unfolding power_of_two◌from◌to◌
-  is_none e n h = go (n is_from least to most) refl
-    where
-      -- a power of two that lies between is among them
-      held : (t : Bool) → t ≡ true → (not t || among l n) ≡ true → among l n ≡ true
-      held true q f = f
-      held false q f = absurd (false≢true q)
-
-      apart : (n is_from least to most) ≡ true → (k : ℕ) → k < 64 → eqb n (2 ^ k) ≡ false
-      apart b k w =
-          ne_eqb n (2 ^ k) (λ q. h (among_one l n (held (n is_from least to most) b (rw (← q) at (all_at (λ j. not (2 ^ j is_from least to most) || among l (2 ^ j)) 64 k e w)))))
-
-      go : (t : Bool) → (n is_from least to most) ≡ t → (some_below 64 (λ k. eqb n (2 ^ k)) && t) ≡ false
-      go true b = rw (none_of (λ k. eqb n (2 ^ k)) 64 (apart b))
-      go false b = and-false (some_below 64 (λ k. eqb n (2 ^ k)))
+-- so a number of 64 bits is such a power if it has one bit set and lies between
+pub one_bit : (n least most : ℕ) → n < 2 ^ 64 → (power_of_two n from least to most) ≡ (is_power_of_two n && (leb least n && leb n most))
+unfolding power_of_two◌from◌to◌
+one_bit n least most h = rw (one_of n h)
 
 module _ (n least most : ℕ) (e : (power_of_two n from least to most) ≡ true) where
   between : (n is_from least to most) ≡ true
@@ -71,7 +62,3 @@ module _ (n least most : ℕ) (e : (power_of_two n from least to most) ≡ true)
 
   pub at_most : n ≤ most
   at_most = leb-true n most (and_right (leb least n) (leb n most) between)
-
--- a TSB has some bytes: t is what the test of its entries came to
-pub some_bytes : (n : ℕ) (t : Bool) → t ≡ (power_of_two n from 512 to 1_048_576) → not t ≡ false → 0 < 16 * n
-some_bytes n t e h = omega (arith, at_least n 512 1_048_576 (sym e ∙ not-false t h))

@@ -1,7 +1,7 @@
 // Records as they are after loading: all is unset, disabled, idle and 0.
 ghost use Rattle.std.specs.Prelude.{◌≡◌, replicate};
 ghost use Rattle.rules.specs.Limits.{extent_limit, source_limit, cpu_limit, guest_limit};
-ghost use Rattle.rules.specs.Kept.{blank_extent, blank_source, blank_tsbs, blank_cpu, blank_guest, no_versions, no_guests};
+ghost use Rattle.rules.specs.Kept.{blank_extent, blank_source, blank_tsb, blank_tsbs, blank_cpu, blank_guest, no_versions, no_guests};
 
 use rules::{
     CPUS, Cpu, EXTENTS, Extent, Extents, GUESTS, Guest, Plant, QUEUES, Queue, QueueRecord, SOURCES,
@@ -55,33 +55,45 @@ pub fn versions() -> Versions
     }
 }
 
+pub fn tsb() -> Tsb
+    ensures { result ≡ blank_tsb }
+{
+    Tsb {
+        index: 0,
+        associativity: 0,
+        entries: 0,
+        context: 0,
+        mask: 0,
+        base: 0,
+    }
+}
+
 pub fn tsbs() -> Tsbs
     ensures { result ≡ blank_tsbs }
 {
     Tsbs {
         tsbs: 0,
-        tsb: [Tsb {
-            index: 0,
-            associativity: 0,
-            entries: 0,
-            context: 0,
-            mask: 0,
-            base: 0,
-        }; TSBS],
+        tsb: [tsb(); TSBS],
     }
 }
 
-pub fn cpus() -> [Cpu; CPUS]
-    ensures { result ≡ replicate cpu_limit blank_cpu }
+pub fn cpu() -> Cpu
+    ensures { result ≡ blank_cpu }
 {
-    [Cpu {
+    Cpu {
         queue: [Queue {
             held: QueueRecord::Unset,
         }; QUEUES],
         ctx0: tsbs(),
         ctxnon0: tsbs(),
         statistics: 0,
-    }; CPUS]
+    }
+}
+
+pub fn cpus() -> [Cpu; CPUS]
+    ensures { result ≡ replicate cpu_limit blank_cpu }
+{
+    [cpu(); CPUS]
 }
 
 pub fn guest() -> Guest
@@ -108,6 +120,7 @@ pub fn guests() -> [Guest; GUESTS]
     [guest(); GUESTS]
 }
 
+#[tactic(auto, unfolding(rules::specs::Kept::no_guests))]
 pub fn no_guests() -> Tables
     ensures { result ≡ no_guests }
 {
