@@ -1,9 +1,12 @@
 -- The tails of the 0x3c rings as a list: what the record with such tails holds, and what a store in the list makes of it.
+use Rattle.std.proofs.Common.{Some, None}
+use Rattle.std.proofs.lemmas.List.{ext_get_or, length-map, get_or-map as get_or_mapped}
 use mathlib.Core.Path.{◌≡◌, refl, sym, ap, ◌∙◌, subst}
 use mathlib.Core.Bool.{Bool, true, false}
 use mathlib.Core.List.{List, [], ◌∷◌, map, map-append}
 use Prim.Native.Nat.{ℕ, ◌+◌, ◌≤◌, ◌<◌}
 use native.Mathlib.Numerals.{add-one}
+use native.Mathlib.Omega.{arith}
 use lib.ListN.{length, get_or, set, take, get_or-map}
 use lib.Seq.{set-get_or, set-set, get_or-set_same, get_or-set_other, take-suc, take-suc-set, take_all}
 use Rattle.rules.specs.declared.Cpu.{Cpu}
@@ -11,18 +14,17 @@ use Rattle.rules.specs.declared.Extents.{Extents}
 use Rattle.rules.specs.declared.Plant.{Plant}
 use Rattle.rules.specs.declared.Queue.{Queue}
 use Rattle.rules.specs.declared.QueueRecord.{QueueRecord}
-use Rattle.rules.specs.declared.Ring.{Ring}
 use Rattle.rules.specs.Kept.{blank_queue, hollow_cpu, cpu_at, queue_at, cpu_with_queue, with_queue, with_tail}
 use Rattle.rules.specs.Real.{valid}
-use Rattle.rules.specs.Queues.{has_room, put_in}
+use Rattle.rules.specs.Queues.{has_room, PutIn, put_in}
 use Rattle.rules.specs.Mondo.{passed_over, send_one}
 use Rattle.memory.specs.Ready.{present}
 use Rattle.records.specs.Sound.{RecordSound}
-use Rattle.plants.specs.declared.rings.Put.{Put}
 use Rattle.plants.specs.Changes.{at_tail, cpu_at_tail, map_first, with_tails}
 use Rattle.plants.specs.Put.{PutsIn, HeldSound}
+use Rattle.plants.proofs.PutLaws.{puts_none, puts_some, put_full}
 use Rattle.plants.proofs.MapLaws.{map_read, map_store, map_same}
-use Rattle.mondo.specs.Steps.{ring_in, rings_of, tail_in, tails_of, tail_of, send_in, Sends}
+use Rattle.mondo.specs.Steps.{ring_in, rings_of, tail_in, tails_of, tail_of, send_in, Told, Sends}
 use Rattle.mondo.proofs.MondoLaws.{one_plant}
 
 -- one cpu's record
@@ -113,13 +115,36 @@ module _ (extents : Extents) (plant : Plant) (tails : List ℕ) (c : ℕ) (h : c
   pub now_sound : RecordSound (valid (present extents)) (queue_at (cpu_at (with_tails plant tails) c) 0) → HeldSound extents now
   now_sound s = subst (RecordSound (valid (present extents))) (ring_there plant tails c h ∙ sym now_is) s
 
-  pub tail_sent : passed_over c ≡ false → (packet : List ℕ) (mark : ℕ) (m : List ℕ) (r : Put) (m' : List ℕ) (t : ℕ) → c < length tails → PutsIn extents (send_in now packet mark) m r m' → t ≡ tail_of r.held
-      → Sends extents (send_one (with_tails plant tails) c packet mark) m (record { plant = with_tails plant (set tails c t); all = r.room }) m'
-  unfolding send_in
-  tail_sent z packet mark m r m' t k f v =
-      let moved : r.held ≡ at_tail (queue_at (cpu_at plant c) 0) t =
-      rw v (rw (f.held, now_is) (put_moves (queue_at (cpu_at plant c) 0) (get_or tails c 0) packet)) in
-      rw (ring_stored plant tails c h t k, ← moved) (one_plant (with_tails plant tails) c z packet mark extents m r m' (rw (ring_there plant tails c h, ← now_is) f))
+  -- the queue's record as it is then
+  now_there : now ≡ queue_at (cpu_at (with_tails plant tails) c) 0
+  now_there = now_is ∙ sym (ring_there plant tails c h)
+
+  module _ (z : passed_over c ≡ false) (packet : List ℕ) (mark : ℕ) (m m' : List ℕ) (k : c < length tails) where
+    pub tail_sent : (after : QueueRecord) (t : ℕ) → PutsIn extents (send_in now packet mark) m (Some after) m' → t ≡ tail_of after
+        → Sends extents (send_one (with_tails plant tails) c packet mark) m (record { plant = with_tails plant (set tails c t); all = true }) m'
+    unfolding send_in
+    tail_sent after t f v =
+        let s = puts_some extents (send_in now packet mark) m m' after f in
+        let moved : after ≡ at_tail (queue_at (cpu_at plant c) 0) t =
+        rw v (rw (s.1, now_is) (put_moves (queue_at (cpu_at plant c) 0) (get_or tails c 0) packet)) in
+        rw (ring_stored plant tails c h t k, ← moved, s.1, ← s.0) (one_plant (with_tails plant tails) c z now now_there packet mark extents m m' f.memory)
+
+    -- a ring without room keeps its tail
+    pub tail_left : PutsIn extents (send_in now packet mark) m None m' → Sends extents (send_one (with_tails plant tails) c packet mark) m (record { plant = with_tails plant tails; all = false }) m'
+    unfolding send_in
+    tail_left f =
+        let full : (put_in now packet).room ≡ false = puts_none extents (send_in now packet mark) m m' f in
+        let stays : (put_in now packet).held ≡ now = ap (λ (p : PutIn). p.held) (put_full now packet full) in
+        let same : with_tails plant tails ≡ with_queue (with_tails plant tails) c 0 now =
+        ap (with_tails plant) (sym (set-get_or tails c 0)) ∙ ring_stored plant tails c h (get_or tails c 0) k ∙ ap (with_queue (with_tails plant tails) c 0) (sym now_is) in
+        subst (λ (r : Told). Sends extents (send_one (with_tails plant tails) c packet mark) m r m')
+        (λ i. record { plant = (ap (with_queue (with_tails plant tails) c 0) stays ∙ sym same) i; all = full i })
+        (one_plant (with_tails plant tails) c z now now_there packet mark extents m m' f.memory)
+
+-- a list whose elements are f's of another's, place by place
+pub mapped : {A B : Type 0} (f : A → B) (d : A) (e : B) (xs : List A) (ys : List B) → length ys ≡ length xs → ((i : ℕ) → i < length xs → get_or ys i e ≡ f (get_or xs i d)) → ys ≡ map f xs
+mapped f d e xs ys n h =
+    ext_get_or e ys (map f xs) (n ∙ sym (length-map xs f)) (λ i l. let k : i < length xs = omega (arith, n) in h i k ∙ sym (get_or_mapped f xs i d e k))
 
 -- a loop that fills a list, each element by f from its place in another: after i turns the first i
 module _ {A B : Type 0} (f : A → B) (l : List A) where
@@ -131,13 +156,3 @@ module _ {A B : Type 0} (f : A → B) (l : List A) where
 
   pub filled_all : (s : List B) (i : ℕ) → Filled s i → length s ≤ i → length l ≤ i → s ≡ map f l
   filled_all s i e h k = sym (take_all i s h) ∙ e ∙ ap (map f) (take_all i l k)
-
--- each arm of the ring's record
-module _ (held : QueueRecord) where
-  pub tail_none : held ≡ QueueRecord.Unset → 0 ≡ tail_of held
-  unfolding tail_of
-  tail_none e = rw e
-
-  pub tail_there : (ring : Ring) → held ≡ QueueRecord.Set ring → ring.tail ≡ tail_of held
-  unfolding tail_of
-  tail_there ring e = rw e

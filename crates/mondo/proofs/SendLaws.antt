@@ -6,8 +6,8 @@ use mathlib.Core.List.{List, [], ◌++◌}
 use Prim.Native.Nat.{ℕ, ◌+◌, ◌*◌, ◌≤◌, ◌<◌}
 use native.Mathlib.Numerals.{add-one}
 use native.Mathlib.Omega.{arith}
-use lib.ListN.{length, get_or, take}
-use lib.Seq.{slice, slice-cons, slice_empty}
+use lib.ListN.{length, get_or, drop, drop_of_length-le}
+use lib.Seq.{drop-cons}
 use borrow.Author.Tests.{leb-false}
 use Rattle.rules.specs.declared.Extents.{Extents}
 use Rattle.rules.specs.declared.Plant.{Plant}
@@ -28,14 +28,14 @@ pub other_below : (cpus listed : ℕ) → is_stranger cpus listed ≡ false → 
 other_below cpus listed a o = leb-false cpus listed (rw o at a)
 
 -- so it has a place among the cpus; t is what the code's test came to
-pub index_below : (cpus i count : ℕ) (cs : List ℕ) (t : Bool) → cpus ≤ 8 → ((j : ℕ) → j < count → is_stranger cpus (get_or cs j 0) ≡ false) → i < count → t ≡ passed_over (get_or cs i 0) → t ≡ false
+pub index_below : (cpus i : ℕ) (cs : List ℕ) (t : Bool) → cpus ≤ 8 → ((j : ℕ) → j < length cs → is_stranger cpus (get_or cs j 0) ≡ false) → i < length cs → t ≡ passed_over (get_or cs i 0) → t ≡ false
     → get_or cs i 0 < 8
-index_below cpus i count cs t n a h p e = omega (arith, other_below cpus (get_or cs i 0) (a i h) (sym p ∙ e))
+index_below cpus i cs t n a h p e = omega (arith, other_below cpus (get_or cs i 0) (a i h) (sym p ∙ e))
 
 -- the loop reads no plant, and sends for any whose rings are those that were read and whose cpus are those listed
-pub record Owns (extents : Extents) (n count : ℕ) (cs : List ℕ) (rings : List Queue) (plant : Plant) : Type 0 where
+pub record Owns (extents : Extents) (n : ℕ) (cs : List ℕ) (rings : List Queue) (plant : Plant) : Type 0 where
   pub sound : Sound extents plant n
-  pub known : (i : ℕ) → i < count → is_stranger plant.cpus (get_or cs i 0) ≡ false
+  pub known : (i : ℕ) → i < length cs → is_stranger plant.cpus (get_or cs i 0) ≡ false
   pub own : rings ≡ rings_of plant
 
 -- what one step keeps
@@ -58,13 +58,13 @@ and_assoc : (a b c : Bool) → (a && (b && c)) ≡ ((a && b) && c)
 and_assoc true b c = refl
 and_assoc false b c = refl
 
-module _ (extents : Extents) (plant₀ : Plant) (m₀ cs packet : List ℕ) (list count : ℕ) where
+module _ (extents : Extents) (plant₀ : Plant) (m₀ cs packet : List ℕ) (list : ℕ) where
   -- what is left of the list
   abbrev rest : Plant → ℕ → Sent
-  rest plant i = send_all plant (slice i count cs) packet (list + 2 * i)
+  rest plant i = send_all plant (drop i cs) packet (list + 2 * i)
 
   abbrev whole : Sent
-  whole = send_all plant₀ (take count cs) packet list
+  whole = send_all plant₀ cs packet list
 
   pub record Sending (plant : Plant) (m : List ℕ) (all : Bool) (i : ℕ) : Type 0 where
     pub kept : Keeps extents (length m) plant₀.cpus plant
@@ -77,15 +77,15 @@ module _ (extents : Extents) (plant₀ : Plant) (m₀ cs packet : List ℕ) (lis
       let e : list + 2 * 0 ≡ list = omega arith in
       record { kept = record { sound = s; same = refl }; plant_is = rw e refl; all_is = rw e refl; memory_is = rw e refl }
 
-  pub sending_more : (plant : Plant) (m : List ℕ) (all : Bool) (i : ℕ) (r : Told) (m' : List ℕ) → Sending plant m all i → i < count → count ≤ length cs → is_stranger plant₀.cpus (get_or cs i 0) ≡ false
+  pub sending_more : (plant : Plant) (m : List ℕ) (all : Bool) (i : ℕ) (r : Told) (m' : List ℕ) → Sending plant m all i → i < length cs → is_stranger plant₀.cpus (get_or cs i 0) ≡ false
       → Sends extents (send_one plant (get_or cs i 0) packet (list + 2 * i)) m r m' → length m' ≡ length m → Sending r.plant m' (all && r.all) (i + 1)
   unfolding send_all
-  sending_more plant m all i r m' s h l a f n =
+  sending_more plant m all i r m' s h a f n =
       let o : Sent = send_one plant (get_or cs i 0) packet (list + 2 * i) in
       let t : Sent = rest r.plant (i + 1) in
       let k : Keeps extents (length m) plant.cpus o.plant = one_keeps extents plant (length m) (get_or cs i 0) packet (list + 2 * i) s.kept.sound (rw s.kept.same a) in
       let e : list + 2 * (i + 1) ≡ list + 2 * i + 2 = omega arith in
-      let key : rest plant i ≡ record { plant = t.plant; all = o.all && t.all; writes = o.writes ++ t.writes } = rw (slice-cons i count cs 0 h l, f.plant, e, add-one i) in
+      let key : rest plant i ≡ record { plant = t.plant; all = o.all && t.all; writes = o.writes ++ t.writes } = rw (drop-cons cs i 0 h, f.plant, e, add-one i) in
       record {
         kept = record { sound = rw (n, f.plant) k.sound; same = rw f.plant (k.same ∙ s.kept.same) };
         plant_is = s.plant_is ∙ rw key refl;
@@ -94,17 +94,16 @@ module _ (extents : Extents) (plant₀ : Plant) (m₀ cs packet : List ℕ) (lis
       }
 
   -- an entry that is passed over changes nothing
-  pub sending_passed : (plant : Plant) (m : List ℕ) (all : Bool) (i : ℕ) (t : Bool) → Sending plant m all i → i < count → count ≤ length cs → t ≡ passed_over (get_or cs i 0) → t ≡ true
+  pub sending_passed : (plant : Plant) (m : List ℕ) (all : Bool) (i : ℕ) (t : Bool) → Sending plant m all i → i < length cs → t ≡ passed_over (get_or cs i 0) → t ≡ true
       → Sending plant m all (i + 1)
-  sending_passed plant m all i t s h l p e =
+  sending_passed plant m all i t s h p e =
       let o : passed_over (get_or cs i 0) ≡ true = sym p ∙ e in
-      rw (← and-true all) (sending_more plant m all i (record { plant = plant; all = true }) m s h l (rw o refl) (one_passed extents plant (get_or cs i 0) packet (list + 2 * i) m o) refl)
+      rw (← and-true all) (sending_more plant m all i (record { plant = plant; all = true }) m s h (rw o refl) (one_passed extents plant (get_or cs i 0) packet (list + 2 * i) m o) refl)
 
-  pub sending_done : (plant : Plant) (m : List ℕ) (all : Bool) (i : ℕ) → Sending plant m all i → i ≤ count → count ≤ i → Sends extents whole m₀ (record { plant = plant; all = all }) m
+  pub sending_done : (plant : Plant) (m : List ℕ) (all : Bool) (i : ℕ) → Sending plant m all i → length cs ≤ i → Sends extents whole m₀ (record { plant = plant; all = all }) m
   unfolding send_all apply
-  sending_done plant m all i s h l =
-      let e : i ≡ count = omega arith in
-      let d : slice i count cs ≡ [] = rw (e, slice_empty) in
+  sending_done plant m all i s h =
+      let d : drop i cs ≡ [] = drop_of_length-le cs h in
       record {
         plant = sym (s.plant_is ∙ rw d refl);
         all = sym (s.all_is ∙ rw d (and-true all));

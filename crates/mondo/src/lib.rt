@@ -15,14 +15,14 @@ ghost use Rattle.plants.specs.Judged.{judged};
 ghost use Rattle.plants.specs.Put.{PutsIn, HeldSound};
 ghost use Rattle.mondo.specs.Steps.{mondo_ranges, mondo_cpus, mondo_sent, send_in, Sends, tail_of, rings_of, tails_of, sent_by};
 
-use plants::{Change, Done, Put, at_tail, done_by, put_entry, told};
-use records::Verdict;
+use plants::{Change, Done, at_tail, done_by, put_entry, told};
 use rules::{Answer, CPUS, Extents, Plant, Queue, QueueRecord, Real, Refusal};
 
 // The longest list.
 const MONDOS: usize = 64;
 
-// What sending has come to: the tails of the 0x3c rings, and whether nothing was left for want of room.
+// What sending has come to: the tails of the 0x3c rings, and whether nothing was left for want of room. Both say something whatever
+// the other is, so they are no Option and no Result.
 #[derive(Clone, Copy)]
 struct Sent {
     tails: [u16; CPUS],
@@ -30,29 +30,21 @@ struct Sent {
 }
 
 // What is asked before the list is read.
-fn judge_ranges(extents: Extents, count: u64, list: u64, data: u64) -> Verdict
+#[tactic(auto, unfolding(crate::specs::Steps::mondo_ranges, plants::specs::Judged::judged))]
+fn judge_ranges(extents: Extents, count: u64, list: u64, data: u64) -> Result<(), Refusal>
     requires { extents.extents ≤ extent_limit }
     ensures { (rest : Ruling Outcome) → mondo_ranges (valid (present extents)) count list «data» rest ≡ judged result rest }
 {
-    if count == 0 {
-        return Verdict::Refused(Refusal::EINVAL);
+    if count == 0 || count > MONDOS as u64 {
+        return Err(Refusal::EINVAL);
     }
-    if 64 < count {
-        return Verdict::Refused(Refusal::EINVAL);
+    if data % 64 != 0 || list % 2 != 0 {
+        return Err(Refusal::EBADALIGN);
     }
-    if data % 64 != 0 {
-        return Verdict::Refused(Refusal::EBADALIGN);
+    if !memory::range_valid(extents, data, 64) || !memory::range_valid(extents, list, 2 * count) {
+        return Err(Refusal::ENORADDR);
     }
-    if list % 2 != 0 {
-        return Verdict::Refused(Refusal::EBADALIGN);
-    }
-    if !memory::range_valid(extents, data, 64) {
-        return Verdict::Refused(Refusal::ENORADDR);
-    }
-    if !memory::range_valid(extents, list, 2 * count) {
-        return Verdict::Refused(Refusal::ENORADDR);
-    }
-    Verdict::Right
+    Ok(())
 }
 
 // The cpus that a list names.
@@ -63,11 +55,9 @@ fn read_list(extents: Extents, mem: &[u8], list: u64, count: usize) -> [u16; MON
     ensures { take count result ≡ listed_cpus (byte_at (present extents) mem.now) list count }
 {
     let mut cpus = [0u16; MONDOS];
-    let mut i = 0;
-    while i < count {
+    for i in 0..count {
         let at = list + 2 * (i as u64);
-        cpus[i] = memory::number2(extents, mem, Real(at));
-        i += 1;
+        cpus[i] = memory::number::<2>(extents, mem, Real(at)) as u16;
     }
     cpus
 }
@@ -83,83 +73,51 @@ fn passed_over(listed: u16) -> bool
 fn is_caller(listed: u16, cpu: usize) -> bool
     ensures { result ≡ is_caller cpu listed }
 {
-    !passed_over(listed) & ((listed as usize) == cpu)
-}
-
-// Whether a list names the caller.
-fn names_caller(cpus: &[u16; MONDOS], count: usize, cpu: usize) -> bool
-    requires { count ≤ 64 }
-    ensures { result ≡ some_below count (λ i. is_caller cpu (get_or cpus.now i 0)) }
-{
-    let mut i = 0;
-    while i < count {
-        if is_caller(cpus[i], cpu) {
-            return true;
-        }
-        i += 1;
-    }
-    false
+    !passed_over(listed) && usize::from(listed) == cpu
 }
 
 // Whether an entry is no cpuid of a guest with so many cpus.
 fn is_stranger(listed: u16, limit: u8) -> bool
     ensures { result ≡ is_stranger limit listed }
 {
-    !passed_over(listed) & ((limit as u16) <= listed)
-}
-
-// Whether a list names a cpu that the guest has not.
-fn names_stranger(cpus: &[u16; MONDOS], count: usize, limit: u8) -> bool
-    requires { count ≤ 64 }
-    ensures { result ≡ some_below count (λ i. is_stranger limit (get_or cpus.now i 0)) }
-{
-    let mut i = 0;
-    while i < count {
-        if is_stranger(cpus[i], limit) {
-            return true;
-        }
-        i += 1;
-    }
-    false
+    !passed_over(listed) && u16::from(limit) <= listed
 }
 
 // What is asked of the listed cpus.
-fn judge_cpus(cpus: &[u16; MONDOS], count: usize, cpu: usize, limit: u8) -> Verdict
-    requires { count ≤ 64 }
-    ensures { (rest : Ruling Outcome) → mondo_cpus (λ i. get_or cpus.now i 0) count cpu limit rest ≡ judged result rest }
+fn judge_cpus(cpus: &[u16], cpu: usize, limit: u8) -> Result<(), Refusal>
+    ensures { (rest : Ruling Outcome) → mondo_cpus (λ i. get_or cpus.now i 0) (length cpus.now) cpu limit rest ≡ judged result rest }
 {
-    if names_caller(cpus, count, cpu) {
-        return Verdict::Refused(Refusal::EINVAL);
+    if cpus.iter().any(|listed| is_caller(*listed, cpu)) {
+        return Err(Refusal::EINVAL);
     }
-    if names_stranger(cpus, count, limit) {
-        return Verdict::Refused(Refusal::ENOCPU);
+    if cpus.iter().any(|listed| is_stranger(*listed, limit)) {
+        return Err(Refusal::ENOCPU);
     }
-    Verdict::Right
+    Ok(())
 }
 
-// The packet to one cpu's ring; its place in the list is at mark and becomes 0xffff.
+// The packet to one cpu's ring, and that queue's record after, if the ring has room; the cpu's place in the list is at mark and
+// becomes 0xffff.
 fn send_one(
     extents: Extents,
     held: QueueRecord,
     mem: &mut [u8],
     packet: &[u8; 64],
     mark: u64,
-) -> Put
+) -> Option<QueueRecord>
     requires extents_le_extent_limit { extents.extents ≤ extent_limit }
     requires ready { Ready (present extents) (length mem.old) }
     requires held_sound { HeldSound extents held }
     requires mark_value { valid (present extents) mark 2 ≡ true }
     ensures { PutsIn extents (send_in held packet.now mark) mem.old result mem.new }
 {
-    let put = put_entry(extents, held, mem, packet);
-    if put.room {
-        let sign = [0xffu8; 2];
-        memory::write_at(extents, mem, Real(mark), &sign);
-    }
-    put
+    let after = put_entry(extents, held, mem, packet)?;
+    memory::write_at(extents, mem, Real(mark), &[0xffu8; 2]);
+    Some(after)
 }
 
 // Where the tail of a ring stands. A queue without a ring has none, and 0 is not looked at there.
+#[tactic(auto, unfolding(crate::specs::Steps::tail_of))]
 fn tail_of(held: QueueRecord) -> u16
     ensures { result ≡ tail_of held }
 {
@@ -177,11 +135,8 @@ fn rings_of(plant: Plant) -> [Queue; CPUS]
         held: QueueRecord::Unset,
     };
     let mut rings = [unset; CPUS];
-    let mut i = 0;
-    while i < CPUS {
-        let c = plant.cpu[i];
-        rings[i] = c.queue[0];
-        i += 1;
+    for i in 0..CPUS {
+        rings[i] = plant.cpu[i].queue[0];
     }
     rings
 }
@@ -190,15 +145,7 @@ fn rings_of(plant: Plant) -> [Queue; CPUS]
 fn tails_of(rings: [Queue; CPUS]) -> [u16; CPUS]
     ensures { result ≡ tails_of rings }
 {
-    let mut tails = [0u16; CPUS];
-    let mut i = 0;
-    while i < CPUS {
-        let queue = rings[i];
-        let held = queue.held;
-        tails[i] = tail_of(held);
-        i += 1;
-    }
-    tails
+    rings.map(|queue| tail_of(queue.held))
 }
 
 // The packet to each cpu of the list, in its order, but for the entries that are passed over. A cpu may stand there twice, so
@@ -207,42 +154,37 @@ fn send_all(
     extents: Extents,
     plant: Plant,
     mem: &mut [u8],
-    cpus: &[u16; MONDOS],
-    count: usize,
+    cpus: &[u16],
     packet: &[u8; 64],
     list: u64,
 ) -> Sent
     requires sound { Sound extents plant (length mem.old) }
-    requires count_in_bounds { (count ≤ length cpus.now) × (count ≤ 64) }
-    requires by_index { (i : ℕ) → i < count → is_stranger plant.cpus (get_or cpus.now i 0) ≡ false }
-    requires count_value { valid (present extents) list (2 * count) ≡ true }
-    ensures { Sends extents (send_all plant (take count cpus.now) packet.now list)
+    requires count_in_bounds { length cpus.now ≤ 64 }
+    requires by_index { (i : ℕ) → i < length cpus.now → is_stranger plant.cpus (get_or cpus.now i 0) ≡ false }
+    requires count_value { valid (present extents) list (2 * length cpus.now) ≡ true }
+    ensures { Sends extents (send_all plant cpus.now packet.now list)
         mem.old (record { plant = with_tails plant result.tails; all = result.all }) mem.new }
 {
     let rings = rings_of(plant);
     let mut tails = tails_of(rings);
     let mut all = true;
-    let mut i = 0;
-    while i < count {
-        let listed = cpus[i];
-        let mark = list + 2 * (i as u64);
-        i += 1;
-        if passed_over(listed) {
+    for (i, listed) in cpus.iter().enumerate() {
+        if passed_over(*listed) {
             continue;
         }
-        let cpu = listed as usize;
-        let queue = rings[cpu];
-        let held = queue.held;
-        let now = at_tail(held, tails[cpu]);
-        let put = send_one(extents, now, mem, packet, mark);
-        let after = put.held;
-        tails[cpu] = tail_of(after);
-        all = all & put.room;
+        let cpu = usize::from(*listed);
+        let now = at_tail(rings[cpu].held, tails[cpu]);
+        let mark = list + 2 * (i as u64);
+        match send_one(extents, now, mem, packet, mark) {
+            Some(after) => tails[cpu] = tail_of(after),
+            None => all = false,
+        }
     }
     Sent { tails, all }
 }
 
 // An answer, with the tails of the 0x3c rings there.
+#[tactic(auto, unfolding(crate::specs::Steps::sent_by, plants::specs::Changes::done_by))]
 fn told_tails(answer: Answer, tails: [u16; CPUS]) -> Done
     ensures { result ≡ sent_by answer tails }
 {
@@ -268,18 +210,17 @@ fn send_listed(
     ensures { Follows extents plant (mondo_sent (sight_of (present extents) mem.old) plant cpu count list «data»)
         mem.old result mem.new }
 {
-    let cpus = read_list(extents, mem, list, count);
-    let verdict = judge_cpus(&cpus, count, cpu, plant.cpus);
-    match verdict {
-        Verdict::Refused(r) => told(Answer::Refused(r)),
-        Verdict::Right => {
-            let packet = memory::bytes64(extents, mem, Real(data));
-            let came = send_all(extents, plant, mem, &cpus, count, &packet, list);
-            let tails = came.tails;
-            if came.all {
-                return told_tails(Answer::Done, tails);
+    let read = read_list(extents, mem, list, count);
+    let cpus = &read[..count];
+    match judge_cpus(cpus, cpu, plant.cpus) {
+        Err(r) => told(Answer::Refused(r)),
+        Ok(()) => {
+            let packet = memory::bytes::<64>(extents, mem, Real(data));
+            let sent = send_all(extents, plant, mem, cpus, &packet, list);
+            if sent.all {
+                return told_tails(Answer::Done, sent.tails);
             }
-            told_tails(Answer::Refused(Refusal::EWOULDBLOCK), tails)
+            told_tails(Answer::Refused(Refusal::EWOULDBLOCK), sent.tails)
         }
     }
 }
@@ -298,9 +239,8 @@ pub fn cpu_mondo_send(
     ensures { Follows extents plant (cpu_mondo_send (sight_of (present extents) mem.old) plant cpu count list «data»)
         mem.old result mem.new }
 {
-    let verdict = judge_ranges(extents, count, list, data);
-    match verdict {
-        Verdict::Refused(r) => told(Answer::Refused(r)),
-        Verdict::Right => send_listed(extents, plant, mem, cpu, count as usize, list, data),
+    match judge_ranges(extents, count, list, data) {
+        Err(r) => told(Answer::Refused(r)),
+        Ok(()) => send_listed(extents, plant, mem, cpu, count as usize, list, data),
     }
 }

@@ -6,4 +6,4 @@ use Rattle.mondo.proofs.rings_of.Goals as goal
 
 pub returns : goal.returns
 unfolding rings_of
-returns c = let l = c.loop-i in filled_all ring_in _ l.rings l.i l.invariant.2 (omega arith) (omega arith)
+returns c = let l = c.loop-i in filled_all ring_in _ l.rings l.i l.invariant.1 (omega arith) (omega arith)

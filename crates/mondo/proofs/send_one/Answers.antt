@@ -2,8 +2,8 @@
 use Rattle.mondo.proofs.MondoLaws.{one_left, one_sent}
 use Rattle.mondo.proofs.send_one.Goals as goal
 
-pub returns-then-put : goal.returns-then-put
-returns-then-put c = search one_sent
+pub returns-in_err-after : goal.returns-in_err-after
+returns-in_err-after c = rw c.from_residual.ensures (one_left _ _ _ _ _ _ c.in_err-after.ensures)
 
-pub returns-else-put : goal.returns-else-put
-returns-else-put c = search one_left
+pub returns : goal.returns
+returns c = one_sent _ _ _ _ _ _ _ _ c.in_ok-after.ensures c.write_at.ensures
