@@ -1,5 +1,5 @@
 -- Promise: an accepted image gives tables that keep the rules.
-use Rattle.std.specs.Prelude.{if◌then◌else◌}
+use Rattle.std.specs.Prelude.{if◌then◌else◌, Option, Some, None}
 use mathlib.Core.Path.{◌≡◌, refl, ap, ◌∙◌}
 use mathlib.Core.Bool.{Bool, true, false, ◌&&◌}
 use mathlib.Core.List.{List}
@@ -11,7 +11,6 @@ use lib.Seq.{get_or-set_same, get_or-set_other}
 use borrow.Author.Tests.{le-leb, leb-true, lt-ltb, ltb-true, ltb-false, eqb-true, eqb-false, not-false}
 use Rattle.rules.specs.declared.Cpu.{Cpu}
 use Rattle.rules.specs.declared.Extents.{Extents}
-use Rattle.rules.specs.declared.Found.{Found}
 use Rattle.rules.specs.declared.Guest.{Guest}
 use Rattle.rules.specs.declared.ImageRefusal.{ImageRefusal}
 use Rattle.rules.specs.declared.ImageRefusal.TheVariants.{ImageShort, HeaderOrCount, ExtentNumbers, ExtentOrder, PagesShared, SourceTwice, FillOrBehind}
@@ -43,9 +42,9 @@ pub then_rest : {R A : Type 0} (t : Bool) (r : R) (x : RulingBy R A) (a : A) →
 then_rest true r x a e = e
 then_rest false r x a e = let z : ◌≡◌ {A = ℕ} 0 1 = cc in absurd (omega arith)
 
-pub scan_tells : {R A : Type 0} (found : Found) (r : ℕ → R) (x : RulingBy R A) (a : A) → (found refuses r then x) ≡ granted a → (found ≡ Found.Nothing) × (x ≡ granted a)
-scan_tells Found.Nothing r x a e = (refl, e)
-scan_tells (Found.At k) r x a e = let z : ◌≡◌ {A = ℕ} 0 1 = cc in absurd (omega arith)
+pub scan_tells : {R A : Type 0} (found : Option ℕ) (r : ℕ → R) (x : RulingBy R A) (a : A) → (found refuses r then x) ≡ granted a → (found ≡ None) × (x ≡ granted a)
+scan_tells None r x a e = (refl, e)
+scan_tells (Some k) r x a e = let z : ◌≡◌ {A = ℕ} 0 1 = cc in absurd (omega arith)
 
 pub granted_same : {R A : Type 0} (a b : A) → ◌≡◌ {A = RulingBy R A} (granted a) (granted b) → a ≡ b
 granted_same a b e = cc
@@ -289,10 +288,10 @@ fields_as_read bytes fields e =
 
 -- tables in which no fault was found
 pub record NoFault (tables : Tables) : Type 0 where
-  numbers : first_breaking right_at tables ≡ Found.Nothing
-  order : first_breaking follows tables ≡ Found.Nothing
-  pages : shares_before tables ≡ Found.Nothing
-  names : named_before tables ≡ Found.Nothing
+  numbers : first_breaking right_at tables ≡ None
+  order : first_breaking follows tables ≡ None
+  pages : shares_before tables ≡ None
+  names : named_before tables ≡ None
 
 -- What the later rules tell.
 module _ (bytes : List ℕ) (end : ℕ) (t r : Tables) (e : judged bytes end t ≡ granted r) where
@@ -320,7 +319,7 @@ module _ (bytes : List ℕ) (end : ℕ) (t r : Tables) (e : judged bytes end t �
       (faultless, then_tells (filled_out bytes end) why (granted t) r d.1, granted_same t r (then_rest (filled_out bytes end) why (granted t) r d.1))
 
 -- a rule that no extent was found to break holds of those that are there
-none_breaks : (rule : Extents → ℕ → Bool) (t : Tables) → first_breaking rule t ≡ Found.Nothing → (g : ℕ) → g < guest_limit → (guest_at t g).extents.extents ≤ extent_limit → Throughout rule (guest_at t g).extents
+none_breaks : (rule : Extents → ℕ → Bool) (t : Tables) → first_breaking rule t ≡ None → (g : ℕ) → g < guest_limit → (guest_at t g).extents.extents ≤ extent_limit → Throughout rule (guest_at t g).extents
 unfolding first_breaking breaks
 none_breaks rule t n g l few i h =
     let q : (extent_limit * g + i) / extent_limit ≡ g = omega arith in

@@ -1,5 +1,5 @@
 -- Every event of a plant leaves a record that keeps the rules.
-use Rattle.std.specs.Prelude.{if◌then◌else◌}
+use Rattle.std.specs.Prelude.{if◌then◌else◌, Option, Some, None}
 use mathlib.Core.Path.{◌≡◌, refl}
 use mathlib.Core.Bool.{Bool, true, false, ◌&&◌, not}
 use Prim.Native.Nat.{ℕ, ◌%◌, ◌≤◌, ◌<◌}
@@ -101,24 +101,24 @@ module _ (sight : Sight) (plant : Plant) (e : plant_keeps sight.valid plant ≡ 
         go true p false = unchanged v plant e
         go false p u = unchanged v plant e
 
-    perform_fine : (f : Function) → Fine v plant (admitted plant.versions f grants λ f. perform sight plant c f)
+    perform_fine : (f : Option Function) → Fine v plant (admitted plant.versions f grants λ f. perform sight plant c f)
     unfolding admitted perform cpu_myid mmustat_info
-    perform_fine Function.Unknown = unchanged v plant e
-    perform_fine Function.SetVersion = set_version_fine v plant e c.arg0 c.arg1
-    perform_fine Function.GetVersion = get_version_fine c.arg0
-    perform_fine Function.CpuQconf = group_fine (leb 1 plant.versions.core) Function.CpuQconf (qconf_fine v plant e c.cpu there c.arg0 c.arg1 c.arg2)
-    perform_fine Function.CpuQinfo = group_fine (leb 1 plant.versions.core) Function.CpuQinfo (qinfo_fine c.cpu c.arg0)
-    perform_fine Function.CpuMyid = group_fine (leb 1 plant.versions.core) Function.CpuMyid (unchanged v plant e)
-    perform_fine Function.CpuMondoSend = group_fine (leb 1 plant.versions.core) Function.CpuMondoSend (mondo_fine sight plant e c.cpu c.arg0 c.arg1 c.arg2)
-    perform_fine Function.MmuTsbCtx0 = group_fine (leb 1 plant.versions.core) Function.MmuTsbCtx0 (ctx0_fine sight plant e c.cpu there c.arg0 c.arg1)
-    perform_fine Function.MmuTsbCtxnon0 = group_fine (leb 1 plant.versions.core) Function.MmuTsbCtxnon0 (ctxnon0_fine sight plant e c.cpu there c.arg0 c.arg1)
-    perform_fine Function.MemScrub = group_fine (leb 1 plant.versions.core) Function.MemScrub (scrub_fine c.arg0 c.arg1)
-    perform_fine Function.MemSync = group_fine (leb 1 plant.versions.core) Function.MemSync (sync_fine c.arg0 c.arg1)
-    perform_fine Function.MmustatConf = group_fine (leb 1 plant.versions.statistics) Function.MmustatConf (statistics_fine v plant e c.cpu there c.arg0)
-    perform_fine Function.MmustatInfo = group_fine (leb 1 plant.versions.statistics) Function.MmustatInfo (unchanged v plant e)
-    perform_fine Function.IntrDevino2sysino = sysino_fine Function.IntrDevino2sysino (λ _. devino_fine v plant e c.arg0 c.arg1)
-    perform_fine (Function.Sysino k) = sysino_fine (Function.Sysino k) (λ m. intr_fine v plant e k c.arg0 c.arg1 m)
-    perform_fine (Function.Cookie k) = go (eqb plant.versions.interrupt 2) refl
+    perform_fine None = unchanged v plant e
+    perform_fine (Some Function.SetVersion) = set_version_fine v plant e c.arg0 c.arg1
+    perform_fine (Some Function.GetVersion) = get_version_fine c.arg0
+    perform_fine (Some Function.CpuQconf) = group_fine (leb 1 plant.versions.core) Function.CpuQconf (qconf_fine v plant e c.cpu there c.arg0 c.arg1 c.arg2)
+    perform_fine (Some Function.CpuQinfo) = group_fine (leb 1 plant.versions.core) Function.CpuQinfo (qinfo_fine c.cpu c.arg0)
+    perform_fine (Some Function.CpuMyid) = group_fine (leb 1 plant.versions.core) Function.CpuMyid (unchanged v plant e)
+    perform_fine (Some Function.CpuMondoSend) = group_fine (leb 1 plant.versions.core) Function.CpuMondoSend (mondo_fine sight plant e c.cpu c.arg0 c.arg1 c.arg2)
+    perform_fine (Some Function.MmuTsbCtx0) = group_fine (leb 1 plant.versions.core) Function.MmuTsbCtx0 (ctx0_fine sight plant e c.cpu there c.arg0 c.arg1)
+    perform_fine (Some Function.MmuTsbCtxnon0) = group_fine (leb 1 plant.versions.core) Function.MmuTsbCtxnon0 (ctxnon0_fine sight plant e c.cpu there c.arg0 c.arg1)
+    perform_fine (Some Function.MemScrub) = group_fine (leb 1 plant.versions.core) Function.MemScrub (scrub_fine c.arg0 c.arg1)
+    perform_fine (Some Function.MemSync) = group_fine (leb 1 plant.versions.core) Function.MemSync (sync_fine c.arg0 c.arg1)
+    perform_fine (Some Function.MmustatConf) = group_fine (leb 1 plant.versions.statistics) Function.MmustatConf (statistics_fine v plant e c.cpu there c.arg0)
+    perform_fine (Some Function.MmustatInfo) = group_fine (leb 1 plant.versions.statistics) Function.MmustatInfo (unchanged v plant e)
+    perform_fine (Some Function.IntrDevino2sysino) = sysino_fine Function.IntrDevino2sysino (λ _. devino_fine v plant e c.arg0 c.arg1)
+    perform_fine (Some (Function.Sysino k)) = sysino_fine (Function.Sysino k) (λ m. intr_fine v plant e k c.arg0 c.arg1 m)
+    perform_fine (Some (Function.Cookie k)) = go (eqb plant.versions.interrupt 2) refl
       where
         go : (t : Bool) → eqb plant.versions.interrupt 2 ≡ t → Fine v plant ((t or_refuse EBADTRAP then granted (Function.Cookie k)) grants λ f. perform sight plant c f)
         go true p = vintr_fine v plant e k c.arg0 c.arg1 c.arg2 (eqb-true plant.versions.interrupt 2 p)

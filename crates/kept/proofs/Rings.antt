@@ -1,4 +1,5 @@
 -- Rings that stay right.
+use Rattle.std.proofs.Common.{Ok}
 use mathlib.Core.Path.{◌≡◌, refl, sym, ap, ◌∙◌}
 use mathlib.Core.Bool.{Bool, true, false, ◌&&◌}
 use mathlib.Core.List.{List}
@@ -15,7 +16,6 @@ use Rattle.rules.specs.Tables.{record_right, ring_right, place_right}
 use Rattle.rules.proofs.Tests.{and_left, and_right}
 use Rattle.records.specs.Sound.{RingSound}
 use Rattle.records.specs.Verdict.{verdict_of}
-use Rattle.records.specs.declared.Verdict.TheVariants.{Right}
 use Rattle.records.proofs.Told.{ring_told, entries_least}
 use Rattle.records.proofs.SoundLaws.{ring_sound}
 use Rattle.plants.proofs.SoundAfter.{tail_moved}
@@ -28,12 +28,12 @@ place_right_lem size at m l = rw (eq-eqb (at % 64) 0 m) (lt-ltb at size l)
 pub new_ring_right : (v : ℕ → ℕ → Bool) (base n : ℕ) (ring : Ring) → new_ring v base n ≡ granted ring → ring_right v ring ≡ true
 unfolding ring_right verdict_of
 new_ring_right v base n ring e =
-    let told : verdict_of (new_ring v base n) ≡ Right = ap verdict_of e in
+    let told : verdict_of (new_ring v base n) ≡ (Ok tt) = ap verdict_of e in
     let q : granted (record { base = base; size = 64 * n; head = 0; tail = 0 }) ≡ granted ring = sym (ring_told v base n told) ∙ e in
     let r : record { base = base; size = 64 * n; head = 0; tail = 0 } ≡ ring = cc in
     rw (← r) (fresh told)
   where
-    fresh : verdict_of (new_ring v base n) ≡ Right → ((eqb (64 * n % 64) 0 && accepts (new_ring v base (64 * n / 64))) && (place_right (64 * n) 0 && place_right (64 * n) 0)) ≡ true
+    fresh : verdict_of (new_ring v base n) ≡ (Ok tt) → ((eqb (64 * n % 64) 0 && accepts (new_ring v base (64 * n / 64))) && (place_right (64 * n) 0 && place_right (64 * n) 0)) ≡ true
     fresh told =
         let a : 64 * n % 64 ≡ 0 = omega arith in
         let b : 64 * n / 64 ≡ n = omega arith in

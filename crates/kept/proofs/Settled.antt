@@ -1,11 +1,11 @@
 -- An event on tables that keep the rules, with memory that is long enough, comes to what its owner answers.
+use Rattle.std.proofs.Common.{Option}
 use mathlib.Core.Path.{◌≡◌}
 use mathlib.Core.Bool.{true}
 use mathlib.Core.List.{List}
 use Prim.Native.Nat.{ℕ, ◌≤◌, ◌<◌}
 use lib.ListN.{length}
 use Rattle.rules.specs.declared.Event.{Event}
-use Rattle.rules.specs.declared.Owner.{Owner}
 use Rattle.rules.specs.declared.Tables.{Tables}
 use Rattle.rules.specs.Limits.{extent_limit}
 use Rattle.rules.specs.Kept.{guest_at}
@@ -15,7 +15,7 @@ use Rattle.tables.proofs.SoundTables.{extents_keep_lem, extents_few}
 
 module _ (tables : Tables) (memory : List ℕ) (event : Event) (keep : keep_rules tables ≡ true) (long : long_enough tables (length memory) ≡ true) where
   -- what the owner's answer comes to
-  abbrev pub settled : Owner → HostOutcome
+  abbrev pub settled : Option ℕ → HostOutcome
   settled w = host_outcome_of tables memory (answered_by tables memory event w)
 
   pub event_settled : host_event tables memory event ≡ settled (owner_of tables event)

@@ -1,12 +1,11 @@
 -- The source calls and raise leave a record that keeps the rules.
-use Rattle.std.specs.Prelude.{if◌then◌else◌}
+use Rattle.std.specs.Prelude.{if◌then◌else◌, Option, Some, None}
 use mathlib.Core.Path.{◌≡◌, refl, sym, ap}
 use mathlib.Core.Bool.{Bool, true, false, ◌&&◌, ◌||◌, not, or-true, true≢false}
 use Prim.Native.Nat.{ℕ, ◌≤◌, ◌<◌}
 use native.Mathlib.Omega.{arith}
 use lib.Dec.{leb, ltb, eqb}
 use borrow.Author.Tests.{leb-true, ltb-true, eq-eqb, ne_eqb, eqb-false}
-use Rattle.rules.specs.declared.Found.{Found}
 use Rattle.rules.specs.declared.Plant.{Plant}
 use Rattle.rules.specs.declared.Refusal.{Refusal}
 use Rattle.rules.specs.declared.Refusal.TheVariants.{EINVAL, ENOCPU, ENOTSUPPORTED, NoSource}
@@ -196,9 +195,9 @@ found_there : (plant : Plant) (devhandle devino : ℕ) (r : Refusal) (i : ℕ) �
 unfolding sysino_of
 found_there plant devhandle devino r i e = first_below_lem plant.sources i _ (is_at (sysino_of plant devhandle devino) e)
   where
-    is_at : (f : Found) → found r f ≡ granted i → f ≡ Found.At i
-    is_at Found.Nothing p = let z : ◌≡◌ {A = ℕ} 0 1 = cc in absurd (omega arith)
-    is_at (Found.At j) p = let z : j ≡ i = cc in ap Found.At z
+    is_at : (f : Option ℕ) → found r f ≡ granted i → f ≡ Some i
+    is_at None p = let z : ◌≡◌ {A = ℕ} 0 1 = cc in absurd (omega arith)
+    is_at (Some j) p = let z : j ≡ i = cc in ap Some z
 
 module _ (v : ℕ → ℕ → Bool) (plant : Plant) (e : plant_keeps v plant ≡ true) where
   pub raise_fine : (devhandle devino : ℕ) → Fine v plant (raise plant devhandle devino)

@@ -1,4 +1,5 @@
 -- Promise: what no event changes. So an event that finds memory long enough leaves it so for the next one.
+use Rattle.std.proofs.Common.{Option, Some, None}
 use mathlib.Core.Path.{◌≡◌, refl, ap, ◌∙◌, fun_ext}
 use mathlib.Core.Bool.{Bool, true, false}
 use mathlib.Core.List.{List}
@@ -9,7 +10,6 @@ use lib.ListN.{length}
 use borrow.Author.Tests.{ltb-true}
 use Rattle.rules.specs.declared.Event.{Event}
 use Rattle.rules.specs.declared.Extents.{Extents}
-use Rattle.rules.specs.declared.Owner.{Owner}
 use Rattle.rules.specs.declared.Tables.{Tables}
 use Rattle.rules.specs.Limits.{guest_limit, extent_limit}
 use Rattle.rules.specs.Scan.{all_below, first_below, is_found}
@@ -81,11 +81,11 @@ module _ (tables : Tables) (memory : List ℕ) (event : Event) (keep : keep_rule
   fine : (g : ℕ) → g < tables.guests → Kept (valid (extents_of tables g)) (plant_at tables g) (done g).plant
   fine g h = plant_fine (sight_of (extents_of tables g) memory) (plant_at tables g) (plant_keeps_lem tables keep g h) event
 
-  owner_steady : (w : Owner) → Steady tables (settled tables memory event keep long w).tables × (length (settled tables memory event keep long w).memory ≡ length memory)
-  owner_steady Owner.Nobody = (steady_same tables, refl)
-  owner_steady (Owner.Guest g) = go (ltb g tables.guests) refl
+  owner_steady : (w : Option ℕ) → Steady tables (settled tables memory event keep long w).tables × (length (settled tables memory event keep long w).memory ≡ length memory)
+  owner_steady None = (steady_same tables, refl)
+  owner_steady (Some g) = go (ltb g tables.guests) refl
     where
-      go : (t : Bool) → ltb g tables.guests ≡ t → Steady tables (settled tables memory event keep long (Owner.Guest g)).tables × (length (settled tables memory event keep long (Owner.Guest g)).memory ≡ length memory)
+      go : (t : Bool) → ltb g tables.guests ≡ t → Steady tables (settled tables memory event keep long (Some g)).tables × (length (settled tables memory event keep long (Some g)).memory ≡ length memory)
       go true e =
           let h : g < tables.guests = ltb-true g tables.guests e in
           rw e (

@@ -1,5 +1,6 @@
 -- Promise: the tables keep the rules. Whatever an event is, tables that keep the rules keep them afterwards, so that a host
 -- that loaded its image answers no event with 101.
+use Rattle.std.proofs.Common.{Option, Some, None}
 use mathlib.Core.Path.{◌≡◌, refl, ap}
 use mathlib.Core.Bool.{Bool, true, false}
 use mathlib.Core.List.{List}
@@ -11,7 +12,6 @@ use borrow.Author.Tests.{ltb-true}
 use Rattle.rules.specs.declared.Event.{Event}
 use Rattle.rules.specs.declared.Extents.{Extents}
 use Rattle.rules.specs.declared.Guest.{Guest}
-use Rattle.rules.specs.declared.Owner.{Owner}
 use Rattle.rules.specs.declared.Plant.{Plant}
 use Rattle.rules.specs.declared.Refusal.TheVariants.{ShortMemory}
 use Rattle.rules.specs.declared.Tables.{Tables}
@@ -98,11 +98,11 @@ module _ (tables : Tables) (memory : List ℕ) (event : Event) (keep : keep_rule
   abbrev left : Ruling HostOutcome → Tables
   left x = (host_outcome_of tables memory x).tables
 
-  owner_keeps : (w : Owner) → keep_rules (left (answered_by tables memory event w)) ≡ true
-  owner_keeps Owner.Nobody = keep
-  owner_keeps (Owner.Guest g) = go (ltb g tables.guests) refl
+  owner_keeps : (w : Option ℕ) → keep_rules (left (answered_by tables memory event w)) ≡ true
+  owner_keeps None = keep
+  owner_keeps (Some g) = go (ltb g tables.guests) refl
     where
-      go : (t : Bool) → ltb g tables.guests ≡ t → keep_rules (left (answered_by tables memory event (Owner.Guest g))) ≡ true
+      go : (t : Bool) → ltb g tables.guests ≡ t → keep_rules (left (answered_by tables memory event (Some g))) ≡ true
       go true e =
           let h : g < tables.guests = ltb-true g tables.guests e in
           rw e

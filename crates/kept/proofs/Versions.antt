@@ -1,5 +1,5 @@
 -- Set version leaves a record that keeps the rules.
-use Rattle.std.specs.Prelude.{if◌then◌else◌}
+use Rattle.std.specs.Prelude.{if◌then◌else◌, Option, Some, None}
 use mathlib.Core.Path.{◌≡◌, refl, ap, ◌∙◌}
 use mathlib.Core.Bool.{Bool, true, false, ◌&&◌, ◌||◌, not, and-false, or-true}
 use mathlib.Core.List.{map}
@@ -124,13 +124,13 @@ module _ (v : ℕ → ℕ → Bool) (plant : Plant) (e : plant_keeps v plant ≡
     not_two : (x : Bool) → major ≤ 1 → (x && eqb major 2) ≡ false
     not_two x h = ap (λ (t : Bool). x && t) (ne_eqb major 2 (λ q. omega arith)) ∙ and-false x
 
-    only_one : (group : Group) → major ≤ 1 → Kept v plant (with_versions plant (with_major plant.versions group major)) → Kept v plant (negotiated plant group major)
+    only_one : (group : Option Group) → major ≤ 1 → Kept v plant (with_versions plant (with_major plant.versions group major)) → Kept v plant (negotiated plant group major)
     unfolding negotiated
     only_one group h k = rw (not_two (ltb (major_of plant.versions group) major) h) k
 
     -- group 2
     abbrev next : Versions
-    next = with_major plant.versions Group.Interrupt major
+    next = with_major plant.versions (Some Group.Interrupt) major
 
     next_right : major ≤ 2 → versions_right next ≡ true
     next_right h = made_right next sun4v_right core_right (le-leb major 2 h) statistics_right
@@ -150,7 +150,7 @@ module _ (v : ℕ → ℕ → Bool) (plant : Plant) (e : plant_keeps v plant ≡
         let r = source_there v plant e i j in
         made (with_versions plant next) (disabled s) (name_part_lem plant s r) refl (state_part plant s r) (target_part plant s r) (rw (no_cookie i j (omega arith))) refl
 
-    interrupt_kept : major ≤ 2 → plant.versions.interrupt ≤ major → Kept v plant (negotiated plant Group.Interrupt major)
+    interrupt_kept : major ≤ 2 → plant.versions.interrupt ≤ major → Kept v plant (negotiated plant (Some Group.Interrupt) major)
     unfolding negotiated
     interrupt_kept h m = go (ltb plant.versions.interrupt major) refl (eqb major 2) refl
       where
@@ -161,17 +161,17 @@ module _ (v : ℕ → ℕ → Bool) (plant : Plant) (e : plant_keeps v plant ≡
             let same : major ≡ plant.versions.interrupt = omega (arith, ltb-false plant.versions.interrupt major p) in
             versions_kept next (next_right h) (omega arith) (λ i j. same_interrupt next i j same)
 
-    negotiated_kept : (group : Group) → major ≤ newest group → major_of plant.versions group ≤ major → Kept v plant (negotiated plant group major)
-    negotiated_kept Group.Unknown h m = absurd (omega arith)
-    negotiated_kept Group.Sun4v h m = only_one Group.Sun4v h (versions_kept (with_major plant.versions Group.Sun4v major) (made_right (with_major plant.versions Group.Sun4v major) (le-leb major 1 h) core_right interrupt_right statistics_right) (omega arith) (λ i j. same_interrupt (with_major plant.versions Group.Sun4v major) i j refl))
-    negotiated_kept Group.Core h m = only_one Group.Core h (versions_kept (with_major plant.versions Group.Core major) (made_right (with_major plant.versions Group.Core major) sun4v_right (le-leb major 1 h) interrupt_right statistics_right) m (λ i j. same_interrupt (with_major plant.versions Group.Core major) i j refl))
-    negotiated_kept Group.Interrupt h m = interrupt_kept h m
-    negotiated_kept Group.Statistics h m = only_one Group.Statistics h (versions_kept (with_major plant.versions Group.Statistics major) (made_right (with_major plant.versions Group.Statistics major) sun4v_right core_right interrupt_right (le-leb major 1 h)) (omega arith) (λ i j. same_interrupt (with_major plant.versions Group.Statistics major) i j refl))
+    negotiated_kept : (group : Option Group) → major ≤ newest group → major_of plant.versions group ≤ major → Kept v plant (negotiated plant group major)
+    negotiated_kept None h m = absurd (omega arith)
+    negotiated_kept (Some Group.Sun4v) h m = only_one (Some Group.Sun4v) h (versions_kept (with_major plant.versions (Some Group.Sun4v) major) (made_right (with_major plant.versions (Some Group.Sun4v) major) (le-leb major 1 h) core_right interrupt_right statistics_right) (omega arith) (λ i j. same_interrupt (with_major plant.versions (Some Group.Sun4v) major) i j refl))
+    negotiated_kept (Some Group.Core) h m = only_one (Some Group.Core) h (versions_kept (with_major plant.versions (Some Group.Core) major) (made_right (with_major plant.versions (Some Group.Core) major) sun4v_right (le-leb major 1 h) interrupt_right statistics_right) m (λ i j. same_interrupt (with_major plant.versions (Some Group.Core) major) i j refl))
+    negotiated_kept (Some Group.Interrupt) h m = interrupt_kept h m
+    negotiated_kept (Some Group.Statistics) h m = only_one (Some Group.Statistics) h (versions_kept (with_major plant.versions (Some Group.Statistics) major) (made_right (with_major plant.versions (Some Group.Statistics) major) sun4v_right core_right interrupt_right (le-leb major 1 h)) (omega arith) (λ i j. same_interrupt (with_major plant.versions (Some Group.Statistics) major) i j refl))
 
   pub set_version_fine : (group major : ℕ) → Fine v plant (set_version plant group major)
   unfolding set_version
   set_version_fine group major =
-      let g : Group = group_of group in
+      let g : Option Group = group_of group in
       let last : Ruling Outcome = says (One 0) (negotiated plant g major) in
       let offered : Bool = leb 1 major && leb major (newest g) in
       fine_then v plant e (known g) EINVAL (offered or_refuse ENOTSUPPORTED then leb (major_of plant.versions g) major or_refuse ENOTSUPPORTED then last) (λ _.

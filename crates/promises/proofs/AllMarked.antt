@@ -6,6 +6,7 @@ use Prim.Native.Nat.{ℕ, ◌+◌, ◌*◌, ◌%◌}
 use lib.Dec.{ltb, eqb}
 use Rattle.rules.specs.declared.Call.{Call}
 use Rattle.rules.specs.declared.Event.{Event}
+use Rattle.rules.specs.declared.Function.{Function}
 use Rattle.rules.specs.declared.Plant.{Plant}
 use Rattle.rules.specs.declared.Refusal.TheVariants.{NoCaller, EINVAL, EBADALIGN, ENORADDR}
 use Rattle.rules.specs.declared.Tables.{Tables}
@@ -63,7 +64,7 @@ module _ (sight : Sight) (plant : Plant) (c : Call) (marked : AllMarked sight c)
   unfolding plant_rule perform
   does_nothing f =
       by_outcome Nothing plant (plant_rule sight plant (Event.Call c)) (λ r. (refl, refl))
-      (by_then Nothing (ltb c.cpu plant.cpus) NoCaller _ (by_call Nothing sight plant c (rw (f, by_tests) performs_nothing)))
+      (by_then Nothing (ltb c.cpu plant.cpus) NoCaller _ (by_call Nothing sight plant c (λ g e. let same : g ≡ Function.CpuMondoSend = cc in rw (same, by_tests) performs_nothing)))
 
 leaves_all : (tables : Tables) (memory : List ℕ) (c : Call) → MondoCall c → AllMarked (machine_of tables memory c.guest).sight c → Unchanged tables memory (host_event tables memory (Event.Call c))
 leaves_all tables memory c f marked =

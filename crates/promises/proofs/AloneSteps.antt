@@ -1,5 +1,6 @@
 -- One event, seen by one plant: what the host does for it is what the machine that has this plant alone does; what the host does
 -- for another is nothing to it.
+use Rattle.std.proofs.Common.{Option, Some, None}
 use mathlib.Core.Path.{◌≡◌, refl, sym, ap, ◌∙◌}
 use mathlib.Core.Bool.{Bool, true, false, false≢true}
 use mathlib.Core.List.{List}
@@ -11,7 +12,6 @@ use lib.Seq.{get_or-set_same}
 use borrow.Author.Tests.{ltb-true, lt-ltb}
 use Rattle.rules.specs.declared.Event.{Event}
 use Rattle.rules.specs.declared.Guest.{Guest}
-use Rattle.rules.specs.declared.Owner.{Owner}
 use Rattle.rules.specs.declared.Tables.{Tables}
 use Rattle.rules.specs.Limits.{guest_limit, extent_limit}
 use Rattle.rules.specs.Kept.{guest_at, plant_at, extents_of, hollow_guest, with_plant}
@@ -63,18 +63,18 @@ module _ (tables : Tables) (memory : List ℕ) (event : Event) (keep : keep_rule
     own_step own = rw (event_settled tables memory event keep long, owner_told g (owner_of tables event) own, lt-ltb g tables.guests h) (refl, own_machine)
 
     -- An event of another: the machine is what it was.
-    others_sight : (w : Owner) → (w ≡ Owner.Guest g → ⊥) → sight_of (extents_of tables g) (settled tables memory event keep long w).memory ≡ sight_of (extents_of tables g) memory
-    others_sight Owner.Nobody other = refl
-    others_sight (Owner.Guest f) other = go (ltb f tables.guests) refl
+    others_sight : (w : Option ℕ) → (w ≡ Some g → ⊥) → sight_of (extents_of tables g) (settled tables memory event keep long w).memory ≡ sight_of (extents_of tables g) memory
+    others_sight None other = refl
+    others_sight (Some f) other = go (ltb f tables.guests) refl
       where
-        go : (t : Bool) → ltb f tables.guests ≡ t → sight_of (extents_of tables g) (settled tables memory event keep long (Owner.Guest f)).memory ≡ sight_of (extents_of tables g) memory
+        go : (t : Bool) → ltb f tables.guests ≡ t → sight_of (extents_of tables g) (settled tables memory event keep long (Some f)).memory ≡ sight_of (extents_of tables g) memory
         go true e =
             let limit : tables.guests ≤ guest_limit = guests_few tables keep in
             let there : f < tables.guests = ltb-true f tables.guests e in
             rw e
             (sight_unmoved (extents_of tables f) (extents_of tables g)
             (guests_strangers tables f g (omega arith) (omega arith) (few tables memory event keep long f there) (few tables memory event keep long g h) (pages_apart tables keep)
-            (λ q. other (ap Owner.Guest q)))
+            (λ q. other (ap Some q)))
             (done f).writes memory)
         go false e = rw e
 

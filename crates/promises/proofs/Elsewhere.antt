@@ -1,4 +1,6 @@
 -- Not vacuous: demand 3, of the worked session's host and a second one that differs from it in all that may differ.
+use Rattle.std.proofs.Common.{Option, Some, None}
+use Rattle.rules.specs.declared.Host.{Host}
 use mathlib.Core.Path.{◌≡◌, refl, sym, ◌∙◌}
 use mathlib.Core.Bool.{true}
 use mathlib.Core.List.{List, [], ◌∷◌}
@@ -8,8 +10,6 @@ use lib.ListN.{length, replicate}
 use Rattle.rules.specs.declared.Answer.TheVariants.{Done, One, Refused}
 use Rattle.rules.specs.declared.Event.{Event}
 use Rattle.rules.specs.declared.Extent.{Extent}
-use Rattle.rules.specs.declared.Owner.{Owner}
-use Rattle.rules.specs.declared.Place.{Place}
 use Rattle.rules.specs.declared.Refusal.TheVariants.{NoSource}
 use Rattle.rules.specs.declared.Tables.{Tables}
 use Rattle.rules.specs.Kept.{blank_cpu, blank_source, blank_guest, no_versions}
@@ -57,9 +57,9 @@ pub zero_seen : (es : List Extent) (a : ℕ) → byte_at es zeros a ≡ 0
 unfolding byte_at
 zero_seen es a = there (located es a)
   where
-    there : (p : Place) → byte_there zeros p ≡ 0
-    there Place.Nowhere = refl
-    there (Place.At h) = past_blank 32768 0 h.0
+    there : (p : Option Host) → byte_there zeros p ≡ 0
+    there None = refl
+    there (Some h) = past_blank 32768 0 h.0
 
 -- They are enough for both.
 enough : long_enough worked_tables (length zeros) ≡ true
@@ -111,11 +111,11 @@ mixed_answers = sym (the_same_elsewhere own mixed own_events_lem).answers ∙ ow
 abbrev pub raising : Event
 raising = Event.Raise (record { devhandle = 0x200; devino = 5 })
 
-pub raise_here : (owner_of worked_tables raising ≡ Owner.Guest 1) × ((host_event worked_tables zeros raising).answer ≡ One 1)
+pub raise_here : (owner_of worked_tables raising ≡ Some 1) × ((host_event worked_tables zeros raising).answer ≡ One 1)
 unfolding computing
 raise_here = (refl, refl)
 
-pub raise_there : (owner_of other_tables raising ≡ Owner.Nobody) × ((host_event other_tables zeros raising).answer ≡ Refused NoSource)
+pub raise_there : (owner_of other_tables raising ≡ None) × ((host_event other_tables zeros raising).answer ≡ Refused NoSource)
 unfolding computing
 raise_there = (refl, refl)
 

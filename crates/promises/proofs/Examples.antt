@@ -1,7 +1,8 @@
 -- Promise: the rules answer as the paper's examples say. The lists and their proofs stand beside the rules they speak of, in
 -- crate rules, so that a wrong rule is refused there; these are the claims.
+use Rattle.std.proofs.Common.{Ok}
 use mathlib.Core.Path.{◌≡◌}
-use Rattle.rules.specs.declared.Loading.{Loading}
+use Rattle.rules.specs.Types.{Loading}
 use Rattle.rules.specs.Image.{load}
 use Rattle.rules.proofs.Examples.{cases, Hold, examples, worked_image, worked_tables, worked_image_lem}
 use Rattle.rules.proofs.AcceptedCalls.{AcceptedCalls, accepted_calls}
@@ -21,7 +22,7 @@ use Rattle.rules.proofs.WriteCases.{WriteCases, write_cases}
 use Rattle.rules.proofs.PlanCases.{PlanCases, plan_cases}
 
 -- the image of the worked session loads to the tables that one expects
-pub the_worked_image : load worked_image ≡ record { answer = Loading.Accepted; tables = worked_tables }
+pub the_worked_image : load worked_image ≡ record { answer = (Ok tt); tables = worked_tables }
 the_worked_image = worked_image_lem
 
 -- every case that the paper marks P holds

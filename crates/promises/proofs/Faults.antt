@@ -1,4 +1,5 @@
 -- What each scan of the image's rules finds: the first fault of its kind, and nothing where there is none.
+use Rattle.std.proofs.Common.{Some, None}
 use mathlib.Core.Path.{◌≡◌, refl, sym, ap, ◌∙◌}
 use mathlib.Core.Bool.{Bool, true, false, ◌&&◌, true≢false}
 use mathlib.Core.Logic.{inl, inr}
@@ -8,7 +9,6 @@ use lib.Dec.{leb, ltb, eqb}
 use borrow.Author.Tests.{ltb-true, ltb-false, lt-ltb, leb-true, leb-false, eqb-true, eqb-false, eq-eqb, ne_eqb, not-true}
 use Rattle.rules.specs.declared.Extent.{Extent}
 use Rattle.rules.specs.declared.Extents.{Extents}
-use Rattle.rules.specs.declared.Found.{Found}
 use Rattle.rules.specs.declared.Guest.{Guest}
 use Rattle.rules.specs.declared.Tables.{Tables}
 use Rattle.rules.specs.Limits.{guest_limit, extent_limit, source_limit}
@@ -17,7 +17,7 @@ use Rattle.rules.specs.Kept.{guest_at, plant_at, extent_at, blank_extent, blank_
 use Rattle.rules.specs.Image.{right_at, follows, breaks, first_breaking, run_at, share, shares_before, listed, listed_at, twins, named_before}
 use Rattle.rules.proofs.Tests.{and_left, and_right}
 use Rattle.kept.proofs.Accepted.{AsRead, past_blank}
-use Rattle.promises.specs.Places.{Before, First, None, extent_of, HasExtent, HasSource, WrongNumbers, OrderClash, HasPage, PagesClash, NamesClash, OutOfOrder, SharesPages, NamedAgain}
+use Rattle.promises.specs.Places.{Before, First, Nowhere, extent_of, HasExtent, HasSource, WrongNumbers, OrderClash, HasPage, PagesClash, NamesClash, OutOfOrder, SharesPages, NamedAgain}
 use Rattle.promises.proofs.PlaceLaws.{some_tells, Seen, seen_by, some_earlier, earlier_place, first_place, no_place}
 
 -- A guest's extents: one that does not follow the one before it, and one that starts before the end of any before it.
@@ -134,11 +134,11 @@ module _ (t : Tables) (a : AsRead t) where
   wrong_seen : (g i : ℕ) → WrongNumbers t g i → Seen extent_limit (broken right_at) g i
   wrong_seen g i x = broken_seen right_at g i i x.there (omega arith) x.wrong
 
-  pub numbers_first : (k : ℕ) → first_breaking right_at t ≡ Found.At k → First (WrongNumbers t) (k / extent_limit) (k % extent_limit)
+  pub numbers_first : (k : ℕ) → first_breaking right_at t ≡ Some k → First (WrongNumbers t) (k / extent_limit) (k % extent_limit)
   unfolding first_breaking
   numbers_first k e = first_place extent_limit (omega arith) (broken right_at) (WrongNumbers t) wrong_found wrong_seen k e
 
-  pub numbers_none : first_breaking right_at t ≡ Found.Nothing → None (WrongNumbers t)
+  pub numbers_none : first_breaking right_at t ≡ None → Nowhere (WrongNumbers t)
   unfolding first_breaking
   numbers_none e = no_place extent_limit (omega arith) (broken right_at) (WrongNumbers t) wrong_found wrong_seen e
 
@@ -164,11 +164,11 @@ module _ (t : Tables) (a : AsRead t) where
           let w = not_ascending (guest_at t g).extents x.position i l s in
           broken_seen follows g i w.0 c.later w.1.0 w.1.1
 
-  pub order_first : (k : ℕ) → first_breaking follows t ≡ Found.At k → First (OutOfOrder t) (k / extent_limit) (k % extent_limit)
+  pub order_first : (k : ℕ) → first_breaking follows t ≡ Some k → First (OutOfOrder t) (k / extent_limit) (k % extent_limit)
   unfolding first_breaking
   order_first k e = first_place extent_limit (omega arith) (broken follows) (OutOfOrder t) order_found order_seen k e
 
-  pub order_none : first_breaking follows t ≡ Found.Nothing → None (OutOfOrder t)
+  pub order_none : first_breaking follows t ≡ None → Nowhere (OutOfOrder t)
   unfolding first_breaking
   order_none e = no_place extent_limit (omega arith) (broken follows) (OutOfOrder t) order_found order_seen e
 
@@ -212,11 +212,11 @@ module _ (t : Tables) (a : AsRead t) where
       (some_earlier extent_limit (omega arith) (λ m. share (run_at t m) (run_at t (extent_limit * g + i))) x.guest x.position g i one.1 x.before
       (rw (run_is x.guest x.position one.1, run_is g i few.1) (page_shared _ _ c.page c.of_earlier c.of_later)))
 
-  pub pages_first : (k : ℕ) → shares_before t ≡ Found.At k → First (SharesPages t) (k / extent_limit) (k % extent_limit)
+  pub pages_first : (k : ℕ) → shares_before t ≡ Some k → First (SharesPages t) (k / extent_limit) (k % extent_limit)
   unfolding shares_before
   pages_first k e = first_place extent_limit (omega arith) shares (SharesPages t) pages_found pages_seen k e
 
-  pub pages_none : shares_before t ≡ Found.Nothing → None (SharesPages t)
+  pub pages_none : shares_before t ≡ None → Nowhere (SharesPages t)
   unfolding shares_before
   pages_none e = no_place extent_limit (omega arith) shares (SharesPages t) pages_found pages_seen e
 
@@ -272,10 +272,10 @@ module _ (t : Tables) (a : AsRead t) where
       (rw (there_listed g i c.later)
       (some_earlier source_limit (omega arith) (λ m. twins t m (source_limit * g + i)) x.guest x.position g i one.1 x.before (clash_twins x.guest x.position g i c)))
 
-  pub names_first : (k : ℕ) → named_before t ≡ Found.At k → First (NamedAgain t) (k / source_limit) (k % source_limit)
+  pub names_first : (k : ℕ) → named_before t ≡ Some k → First (NamedAgain t) (k / source_limit) (k % source_limit)
   unfolding named_before
   names_first k e = first_place source_limit (omega arith) twin (NamedAgain t) names_found names_seen k e
 
-  pub names_none : named_before t ≡ Found.Nothing → None (NamedAgain t)
+  pub names_none : named_before t ≡ None → Nowhere (NamedAgain t)
   unfolding named_before
   names_none e = no_place source_limit (omega arith) twin (NamedAgain t) names_found names_seen e

@@ -1,5 +1,6 @@
 -- Promise: what is loaded and written, written and loaded, over the theorems of crate roundtrip; and how much of its input the program `plan`
 -- needs, over that of crate desk.
+use Rattle.std.proofs.Common.{Ok, Err}
 use mathlib.Core.Path.{◌≡◌, refl, sym, ap, ◌∙◌}
 use mathlib.Core.Bool.{Bool, true, false}
 use mathlib.Core.List.{List, ◌++◌}
@@ -9,11 +10,11 @@ use lib.Dec.{leb}
 use lib.ListN.{length, take, drop}
 use lib.Seq.{take-append_seam}
 use borrow.Author.Tests.{le-leb, leb-true}
-use Rattle.rules.specs.declared.Loading.{Loading}
+use Rattle.rules.specs.Types.{Loading}
 use Rattle.rules.specs.declared.Loaded.{Loaded}
 use Rattle.rules.specs.declared.Tables.{Tables}
 use Rattle.rules.specs.declared.WriteRefusal.{WriteRefusal}
-use Rattle.rules.specs.declared.Writing.{Writing}
+use Rattle.rules.specs.Types.{Writing}
 use Rattle.rules.specs.Rulings.{RulingBy, refused, granted, ◌or_refuse◌then◌}
 use Rattle.rules.specs.Image.{Reading, read_image, loaded_as, load}
 use Rattle.rules.specs.Tables.{keep_rules}
@@ -28,11 +29,11 @@ use Rattle.roundtrip.proofs.Loaded.{loaded_again_lem}
 use Rattle.promises.specs.Promises.{Images, PlanEnough}
 
 -- an image that is accepted was read as the tables that are loaded
-accepted_read : (bytes : List ℕ) → (load bytes).answer ≡ Loading.Accepted → read_image bytes ≡ granted (load bytes).tables
+accepted_read : (bytes : List ℕ) → (load bytes).answer ≡ (Ok tt) → read_image bytes ≡ granted (load bytes).tables
 unfolding load
 accepted_read bytes e = go (read_image bytes) e
   where
-    go : (m : Reading Tables) → (loaded_as m).answer ≡ Loading.Accepted → m ≡ granted (loaded_as m).tables
+    go : (m : Reading Tables) → (loaded_as m).answer ≡ (Ok tt) → m ≡ granted (loaded_as m).tables
     go (granted t) p = refl
     go (refused r) p = cc
 
@@ -42,26 +43,26 @@ unfolding write_rule
 rule_grants tables room k g l = rw (k, le-leb 1 tables.guests g, le-leb (length (image_of tables)) room l)
 
 written : (tables : Tables) (buffer : List ℕ) → keep_rules tables ≡ true → 1 ≤ tables.guests → length (image_of tables) ≤ length buffer
-    → write_image tables buffer ≡ record { answer = Writing.Written (length (image_of tables)); buffer = image_of tables ++ drop (length (image_of tables)) buffer }
+    → write_image tables buffer ≡ record { answer = Ok (length (image_of tables)); buffer = image_of tables ++ drop (length (image_of tables)) buffer }
 unfolding write_image
 written tables buffer k g l = rw (rule_grants tables (length buffer) k g l)
 
-again : (bytes buffer : List ℕ) → Bytes bytes → (load bytes).answer ≡ Loading.Accepted → length bytes ≤ length buffer
-    → write_image (load bytes).tables buffer ≡ record { answer = Writing.Written (length bytes); buffer = bytes ++ drop (length bytes) buffer }
+again : (bytes buffer : List ℕ) → Bytes bytes → (load bytes).answer ≡ (Ok tt) → length bytes ≤ length buffer
+    → write_image (load bytes).tables buffer ≡ record { answer = Ok (length bytes); buffer = bytes ++ drop (length bytes) buffer }
 again bytes buffer b e l =
     let r = accepted_read bytes e in
     let same : image_of (load bytes).tables ≡ bytes = written_again bytes (load bytes).tables b r in
     let fits : length (image_of (load bytes).tables) ≤ length buffer = rw same l in
     written (load bytes).tables buffer (accepted_keeps bytes (load bytes).tables r) (accepted_guests bytes (load bytes).tables r) fits
-    ∙ ap (λ (x : List ℕ). record { answer = Writing.Written (length x); buffer = x ++ drop (length x) buffer }) same
+    ∙ ap (λ (x : List ℕ). record { answer = Ok (length x); buffer = x ++ drop (length x) buffer }) same
 
 -- what an answer tells of the rule
-was_granted : (buffer : List ℕ) (m : RulingBy WriteRefusal (List ℕ)) (n : ℕ) → (write_outcome buffer m).answer ≡ Writing.Written n
+was_granted : (buffer : List ℕ) (m : RulingBy WriteRefusal (List ℕ)) (n : ℕ) → (write_outcome buffer m).answer ≡ Ok n
     → (image : List ℕ) × ((m ≡ granted image) × (n ≡ length image))
 was_granted buffer (granted image) n e = (image, (refl, cc))
 was_granted buffer (refused r) n e = absurd (let z : ◌≡◌ {A = ℕ} 0 1 = cc in omega arith)
 
-was_refused : (buffer : List ℕ) (m : RulingBy WriteRefusal (List ℕ)) (r : WriteRefusal) → (write_outcome buffer m).answer ≡ Writing.Refused r
+was_refused : (buffer : List ℕ) (m : RulingBy WriteRefusal (List ℕ)) (r : WriteRefusal) → (write_outcome buffer m).answer ≡ Err r
     → (write_outcome buffer m).buffer ≡ buffer
 was_refused buffer (refused s) r e = refl
 was_refused buffer (granted image) r e = absurd (let z : ◌≡◌ {A = ℕ} 0 1 = cc in omega arith)
@@ -80,8 +81,8 @@ front : (buffer : List ℕ) (m : RulingBy WriteRefusal (List ℕ)) (n : ℕ) (im
     → take n (write_outcome buffer m).buffer ≡ image
 front buffer m n image p q = rw (p, q) (take-append_seam image (drop (length image) buffer))
 
-loads : (tables : Tables) (buffer : List ℕ) (n : ℕ) → Whole tables → (write_image tables buffer).answer ≡ Writing.Written n
-    → load (take n (write_image tables buffer).buffer) ≡ record { answer = Loading.Accepted; tables = as_loaded tables }
+loads : (tables : Tables) (buffer : List ℕ) (n : ℕ) → Whole tables → (write_image tables buffer).answer ≡ Ok n
+    → load (take n (write_image tables buffer).buffer) ≡ record { answer = (Ok tt); tables = as_loaded tables }
 unfolding write_image write_rule
 loads tables buffer n w e =
     let room = length buffer in

@@ -1,5 +1,5 @@
 -- Promise: isolation (demand 2). No event changes a record or a byte of a guest other than its own.
-use Rattle.std.specs.Prelude.{if◌then◌else◌}
+use Rattle.std.specs.Prelude.{if◌then◌else◌, Option, Some, None}
 use mathlib.Core.Path.{◌≡◌, refl, sym, ap, ◌∙◌}
 use mathlib.Core.Bool.{Bool, true, false, false≢true}
 use mathlib.Core.List.{List}
@@ -10,7 +10,6 @@ use lib.ListN.{length}
 use lib.Seq.{get_or-set_other}
 use borrow.Author.Tests.{eqb-true, ltb-true, ltb-false, le-ltb, eq-eqb}
 use Rattle.rules.specs.declared.Event.{Event}
-use Rattle.rules.specs.declared.Owner.{Owner}
 use Rattle.rules.specs.declared.Refusal.{Refusal}
 use Rattle.rules.specs.declared.Refusal.TheVariants.{BadTables, ShortMemory}
 use Rattle.rules.specs.declared.Tables.{Tables}
@@ -31,11 +30,11 @@ use Rattle.promises.specs.Words.{Passes, is_owner, belongs, Unchanged, Untouched
 use Rattle.promises.specs.Promises.{Isolation, NobodysBytes, RefusedAtTheDoor}
 
 -- what the test of the owner tells
-pub owner_told : (g : ℕ) (w : Owner) → is_owner g w ≡ true → w ≡ Owner.Guest g
-owner_told g Owner.Nobody e = absurd (false≢true e)
-owner_told g (Owner.Guest h) e = ap Owner.Guest (eqb-true h g e)
+pub owner_told : (g : ℕ) (w : Option ℕ) → is_owner g w ≡ true → w ≡ Some g
+owner_told g None e = absurd (false≢true e)
+owner_told g (Some h) e = ap Some (eqb-true h g e)
 
-pub owner_not : (g : ℕ) (w : Owner) → is_owner g w ≡ false → w ≡ Owner.Guest g → ⊥
+pub owner_not : (g : ℕ) (w : Option ℕ) → is_owner g w ≡ false → w ≡ Some g → ⊥
 owner_not g w e q = false≢true (sym e ∙ ap (is_owner g) q ∙ eq-eqb g g refl)
 
 -- An event that is refused at the door, among them a raise that answers 104, changes nothing at all.
@@ -53,23 +52,23 @@ absent_none tables keep f h l =
 
 module _ (tables : Tables) (memory : List ℕ) (event : Event) (keep : keep_rules tables ≡ true) (long : long_enough tables (length memory) ≡ true) where
   -- a host offset that is none of the owner's keeps its byte
-  byte_kept : (w : Owner) (k : ℕ) → ((g : ℕ) → g < tables.guests → w ≡ Owner.Guest g → owns (extents_of tables g) k ≡ false) → cell (settled tables memory event keep long w).memory k ≡ cell memory k
-  byte_kept Owner.Nobody k other = refl
-  byte_kept (Owner.Guest g) k other = go (ltb g tables.guests) refl
+  byte_kept : (w : Option ℕ) (k : ℕ) → ((g : ℕ) → g < tables.guests → w ≡ Some g → owns (extents_of tables g) k ≡ false) → cell (settled tables memory event keep long w).memory k ≡ cell memory k
+  byte_kept None k other = refl
+  byte_kept (Some g) k other = go (ltb g tables.guests) refl
     where
-      go : (t : Bool) → ltb g tables.guests ≡ t → cell (settled tables memory event keep long (Owner.Guest g)).memory k ≡ cell memory k
+      go : (t : Bool) → ltb g tables.guests ≡ t → cell (settled tables memory event keep long (Some g)).memory k ≡ cell memory k
       go true e =
           rw e
           (apply_other (extents_of tables g) k (other g (ltb-true g tables.guests e) refl)
           (outcome_of (plant_at tables g) (plant_rule (sight_of (extents_of tables g) memory) (plant_at tables g) event)).writes memory)
       go false e = rw e
 
-  record_kept : (w : Owner) (f : ℕ) → (w ≡ Owner.Guest f → ⊥) → guest_at (settled tables memory event keep long w).tables f ≡ guest_at tables f
-  record_kept Owner.Nobody f other = refl
-  record_kept (Owner.Guest g) f other = go (ltb g tables.guests) refl
+  record_kept : (w : Option ℕ) (f : ℕ) → (w ≡ Some f → ⊥) → guest_at (settled tables memory event keep long w).tables f ≡ guest_at tables f
+  record_kept None f other = refl
+  record_kept (Some g) f other = go (ltb g tables.guests) refl
     where
-      go : (t : Bool) → ltb g tables.guests ≡ t → guest_at (settled tables memory event keep long (Owner.Guest g)).tables f ≡ guest_at tables f
-      go true e = rw e (get_or-set_other tables.guest g f _ hollow_guest (λ q. other (ap Owner.Guest (sym q))))
+      go : (t : Bool) → ltb g tables.guests ≡ t → guest_at (settled tables memory event keep long (Some g)).tables f ≡ guest_at tables f
+      go true e = rw e (get_or-set_other tables.guest g f _ hollow_guest (λ q. other (ap Some (sym q))))
       go false e = rw e
 
   place_few : (f : ℕ) → f < guest_limit → (guest_at tables f).extents.extents ≤ extent_limit
@@ -82,13 +81,13 @@ module _ (tables : Tables) (memory : List ℕ) (event : Event) (keep : keep_rule
   passing_untouched : (f : ℕ) → f < guest_limit → belongs tables f event ≡ false → Untouched tables memory f (host_event tables memory event)
   passing_untouched f h foreign =
       let limit : tables.guests ≤ guest_limit = guests_few tables keep in
-      let other : (owner_of tables event ≡ Owner.Guest f → ⊥) = owner_not f (owner_of tables event) foreign in
+      let other : (owner_of tables event ≡ Some f → ⊥) = owner_not f (owner_of tables event) foreign in
       record {
         kept = ap (λ (o : HostOutcome). guest_at o.tables f) (event_settled tables memory event keep long) ∙ record_kept (owner_of tables event) f other;
         bytes = λ k own. ap (λ (o : HostOutcome). cell o.memory k) (event_settled tables memory event keep long)
             ∙ byte_kept (owner_of tables event) k (λ g l e.
             guests_strangers tables g f (omega arith) h (few tables memory event keep long g l) (place_few f h) (pages_apart tables keep)
-            (λ q. other (e ∙ ap Owner.Guest q)) k own);
+            (λ q. other (e ∙ ap Some q)) k own);
       }
 
   passing_nobodys : (k : ℕ) → ((g : ℕ) → g < tables.guests → owns (extents_of tables g) k ≡ false) → cell (host_event tables memory event).memory k ≡ cell memory k

@@ -1,4 +1,5 @@
 -- Scans over the places of the host's guests, of which each has so many: place (g, i) is number size * g + i of the scan.
+use Rattle.std.proofs.Common.{Some, None}
 use mathlib.Core.Path.{◌≡◌, refl, sym, ◌∙◌}
 use mathlib.Core.Bool.{Bool, true, false, ◌||◌, true≢false}
 use mathlib.Core.Logic.{inl, inr}
@@ -7,11 +8,10 @@ use native.Mathlib.Nat.{div-add-mod, mod-lt, mul-le-mul_left, mul-suc}
 use native.Mathlib.Omega.{arith}
 use lib.Dec.{ltb}
 use borrow.Author.Tests.{ltb-true, ltb-false}
-use Rattle.rules.specs.declared.Found.{Found}
 use Rattle.rules.specs.Limits.{guest_limit}
 use Rattle.rules.specs.Scan.{some_below, first_below}
 use Rattle.rules.proofs.Scan.{some_found, first_tells, first_below_lem, nothing_at}
-use Rattle.promises.specs.Places.{Before, First, None}
+use Rattle.promises.specs.Places.{Before, First, Nowhere}
 
 -- what a search for some number found
 pub some_tells : (p : ℕ → Bool) (n : ℕ) → some_below n p ≡ true → (i : ℕ) × ((i < n) × (p i ≡ true))
@@ -73,10 +73,10 @@ module _ (size : ℕ) (some : 0 < size) where
 
   -- a test that finds faults, and each fault of which is seen
   module _ (p : ℕ → Bool) (Fault : ℕ → ℕ → Type 0) (finds : (k : ℕ) → k < guest_limit * size → p k ≡ true → Fault (k / size) (k % size)) (seen : (g i : ℕ) → Fault g i → Seen size p g i) where
-    none_below : (k f j : ℕ) → first_below k p ≡ Found.Nothing → (s : Seen size p f j) → size * f + j < k → ⊥
+    none_below : (k f j : ℕ) → first_below k p ≡ None → (s : Seen size p f j) → size * f + j < k → ⊥
     none_below k f j e s h = true≢false (sym s.holds ∙ nothing_at p k s.number e (omega (arith, s.no_later)))
 
-    pub first_place : (k : ℕ) → first_below (guest_limit * size) p ≡ Found.At k → First Fault (k / size) (k % size)
+    pub first_place : (k : ℕ) → first_below (guest_limit * size) p ≡ Some k → First Fault (k / size) (k % size)
     first_place k e =
         let t = first_tells p (guest_limit * size) k e in
         record {
@@ -86,7 +86,7 @@ module _ (size : ℕ) (some : 0 < size) where
               none_below k f j t.1 s (rw (div-add-mod k size) at (earlier_number f j (k / size) (k % size) s.position b));
         }
 
-    pub no_place : first_below (guest_limit * size) p ≡ Found.Nothing → None Fault
+    pub no_place : first_below (guest_limit * size) p ≡ None → Nowhere Fault
     no_place e g i x =
         let s = seen g i x in
         none_below (guest_limit * size) g i e s s.among

@@ -1,4 +1,5 @@
 -- Promise: the place that a refused image answers is that of the first fault of its kind (request No. 4).
+use Rattle.std.proofs.Common.{Option, Some, None, Ok, Err}
 use mathlib.Core.Path.{◌≡◌, refl, ap}
 use mathlib.Core.Bool.{true}
 use mathlib.Core.List.{List}
@@ -6,11 +7,10 @@ use mathlib.Core.Logic.{◌⊎◌, inl, inr}
 use Prim.Native.Nat.{ℕ, zero, suc, ◌+◌, ◌*◌, ◌<◌}
 use native.Mathlib.Omega.{arith}
 use lib.ListN.{set, replicate}
-use Rattle.rules.specs.declared.Found.{Found}
 use Rattle.rules.specs.declared.Guest.{Guest}
 use Rattle.rules.specs.declared.ImageRefusal.{ImageRefusal}
 use Rattle.rules.specs.declared.ImageRefusal.TheVariants.{ImageShort, HeaderOrCount, ExtentNumbers, ExtentOrder, PagesShared, SourceTwice, FillOrBehind}
-use Rattle.rules.specs.declared.Loading.{Loading}
+use Rattle.rules.specs.Types.{Loading}
 use Rattle.rules.specs.declared.Tables.{Tables}
 use Rattle.rules.specs.Limits.{guest_limit}
 use Rattle.rules.specs.Scan.{◌is_from◌to◌}
@@ -132,9 +132,9 @@ fields_early bytes =
     (λ partition _. tt))
 
 -- a scan that finds nothing at any place
-none_found : (found : Found) → ((k : ℕ) → found ≡ Found.At k → ⊥) → found ≡ Found.Nothing
-none_found Found.Nothing h = refl
-none_found (Found.At k) h = absurd (h k refl)
+none_found : (found : Option ℕ) → ((k : ℕ) → found ≡ Some k → ⊥) → found ≡ None
+none_found None h = refl
+none_found (Some k) h = absurd (h k refl)
 
 module _ (bytes : List ℕ) where
   -- an image whose fields are refused
@@ -192,23 +192,23 @@ module _ (bytes : List ℕ) where
       go (refused r) e h = early_tells r e h
       go (granted fields) e h = judged_tells fields e
 
-  refused_told : (r : ImageRefusal) → (load bytes).answer ≡ Loading.Refused r → Tells bytes r
+  refused_told : (r : ImageRefusal) → (load bytes).answer ≡ Err r → Tells bytes r
   unfolding load
   refused_told r e = go (read_image bytes) e image_tells
     where
-      go : (x : Reading Tables) → (loaded_as x).answer ≡ Loading.Refused r → Ruled (Tells bytes) (Right bytes) x → Tells bytes r
+      go : (x : Reading Tables) → (loaded_as x).answer ≡ Err r → Ruled (Tells bytes) (Right bytes) x → Tells bytes r
       go (refused s) q h = let z : s ≡ r = cc in rw (← z) h
       go (granted tables) q h = absurd (let z : ◌≡◌ {A = ℕ} 0 1 = cc in omega arith)
 
-  accepted_told : (load bytes).answer ≡ Loading.Accepted → Right bytes (load bytes).tables
+  accepted_told : (load bytes).answer ≡ (Ok tt) → Right bytes (load bytes).tables
   unfolding load
   accepted_told e = go (read_image bytes) e image_tells
     where
-      go : (x : Reading Tables) → (loaded_as x).answer ≡ Loading.Accepted → Ruled (Tells bytes) (Right bytes) x → Right bytes (loaded_as x).tables
+      go : (x : Reading Tables) → (loaded_as x).answer ≡ (Ok tt) → Ruled (Tells bytes) (Right bytes) x → Right bytes (loaded_as x).tables
       go (refused s) q h = absurd (let z : ◌≡◌ {A = ℕ} 0 1 = cc in omega arith)
       go (granted tables) q h = h
 
-  right_loaded : (tables : Tables) → Right bytes tables → load bytes ≡ record { answer = Loading.Accepted; tables = tables }
+  right_loaded : (tables : Tables) → Right bytes tables → load bytes ≡ record { answer = (Ok tt); tables = tables }
   unfolding load read_image
   right_loaded tables g = rw (g.read, passed g.fields g.read g.holds.0 g.holds.1, g.holds.2)
 

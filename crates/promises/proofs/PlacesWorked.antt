@@ -1,11 +1,12 @@
 -- Not vacuous: images with a fault of each kind, and the place that each tells (request No. 4).
+use Rattle.std.proofs.Common.{Ok, Err}
 use mathlib.Core.Path.{◌≡◌, refl, sym, ◌∙◌}
 use mathlib.Core.List.{List, [], ◌∷◌}
 use Prim.Native.Nat.{ℕ}
 use native.Mathlib.Omega.{arith}
 use lib.ListN.{replicate}
 use Rattle.rules.specs.declared.ImageRefusal.TheVariants.{ImageShort, HeaderOrCount, ExtentNumbers, ExtentOrder, PagesShared, SourceTwice, FillOrBehind}
-use Rattle.rules.specs.declared.Loading.{Loading}
+use Rattle.rules.specs.Types.{Loading}
 use Rattle.rules.specs.declared.Tables.{Tables}
 use Rattle.rules.specs.Limits.{cpu_limit, source_limit}
 use Rattle.rules.specs.Kept.{blank_cpu, blank_source, blank_guest, no_versions}
@@ -21,9 +22,9 @@ use Rattle.promises.proofs.Places.{places}
 abbrev no_cpu : List ℕ
 no_cpu = 0x12 ∷ 0x12 ∷ 0x00 ∷ 0x00 ∷ 0x00 ∷ 0x00 ∷ 0x00 ∷ 0x01 ∷ 0x00 ∷ 0x00 ∷ 0x02 ∷ 0x00 ∷ []
 
-pub early_refused : ((load []).answer ≡ Loading.Refused ImageShort)
-    × ((load (0x21 ∷ [])).answer ≡ Loading.Refused (HeaderOrCount 0))
-    × ((load no_cpu).answer ≡ Loading.Refused (HeaderOrCount 1))
+pub early_refused : ((load []).answer ≡ Err ImageShort)
+    × ((load (0x21 ∷ [])).answer ≡ Err (HeaderOrCount 0))
+    × ((load no_cpu).answer ≡ Err (HeaderOrCount 1))
 unfolding computing
 early_refused = (refl, refl, refl)
 
@@ -38,12 +39,12 @@ image real host count devhandle last =
     0x12 ∷ 0x14 ∷ 0x10 ∷ 0x00 ∷ 0x00 ∷ 0x04 ∷ 0x00 ∷ 0x01 ∷ 0x00 ∷ 0x00 ∷ 0x00 ∷ 0x00 ∷ 0x00 ∷ real ∷ 0x00 ∷ 0x10 ∷ 0x00 ∷ host
     ∷ 0x00 ∷ 0x01 ∷ 0x00 ∷ 0x0b ∷ 0x12 ∷ 0x10 ∷ 0x00 ∷ 0x00 ∷ 0x00 ∷ 0x00 ∷ count ∷ 0x00 ∷ 0x02 ∷ 0x00 ∷ 0x00 ∷ devhandle ∷ 0x00 ∷ last ∷ []
 
-pub each_refused : ((load (image 0x00 0x00 0x00 0x10 0xb1)).answer ≡ Loading.Refused (ExtentNumbers 1 0))
-    × ((load (image 0x00 0x00 0x01 0x10 0xb1)).answer ≡ Loading.Refused (ExtentOrder 0 1))
-    × ((load (image 0x50 0x00 0x01 0x10 0xb1)).answer ≡ Loading.Refused (PagesShared 0 1))
-    × ((load (image 0x50 0x10 0x01 0x10 0xb1)).answer ≡ Loading.Refused (SourceTwice 1 0))
-    × ((load (image 0x50 0x10 0x01 0x20 0xb1)).answer ≡ Loading.Refused (FillOrBehind 2))
-    × ((load (image 0x50 0x10 0x01 0x20 0xb0)).answer ≡ Loading.Accepted)
+pub each_refused : ((load (image 0x00 0x00 0x00 0x10 0xb1)).answer ≡ Err (ExtentNumbers 1 0))
+    × ((load (image 0x00 0x00 0x01 0x10 0xb1)).answer ≡ Err (ExtentOrder 0 1))
+    × ((load (image 0x50 0x00 0x01 0x10 0xb1)).answer ≡ Err (PagesShared 0 1))
+    × ((load (image 0x50 0x10 0x01 0x10 0xb1)).answer ≡ Err (SourceTwice 1 0))
+    × ((load (image 0x50 0x10 0x01 0x20 0xb1)).answer ≡ Err (FillOrBehind 2))
+    × ((load (image 0x50 0x10 0x01 0x20 0xb0)).answer ≡ (Ok tt))
 unfolding computing
 each_refused = (refl, refl, refl, refl, refl, refl)
 
@@ -90,7 +91,7 @@ both_clash = (
 )
 
 -- What is told is extent 2: the first that clashes with one before it, and not the one that clashes with the first.
-pub pairs_refused : (load two_pairs).answer ≡ Loading.Refused (PagesShared 0 2)
+pub pairs_refused : (load two_pairs).answer ≡ Err (PagesShared 0 2)
 unfolding computing
 pairs_refused = refl
 

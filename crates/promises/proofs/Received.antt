@@ -1,5 +1,5 @@
 -- Promise: what is left that keeps a raise from being delivered, now that each source has a target (request No. 7).
-use Rattle.std.specs.Prelude.{if◌then◌else◌}
+use Rattle.std.specs.Prelude.{if◌then◌else◌, Option, Some, None}
 use mathlib.Core.Path.{◌≡◌, refl}
 use mathlib.Core.Bool.{Bool, true, false, ◌&&◌}
 use mathlib.Core.List.{List}
@@ -11,8 +11,6 @@ use borrow.Author.Tests.{leb-true, ltb-true, eqb-false}
 use Rattle.rules.specs.declared.Answer.TheVariants.{One, Refused}
 use Rattle.rules.specs.declared.Device.{Device}
 use Rattle.rules.specs.declared.Event.{Event}
-use Rattle.rules.specs.declared.Found.{Found}
-use Rattle.rules.specs.declared.Owner.{Owner}
 use Rattle.rules.specs.declared.Plant.{Plant}
 use Rattle.rules.specs.declared.QueueRecord.{QueueRecord}
 use Rattle.rules.specs.declared.Refusal.{Refusal}
@@ -64,20 +62,20 @@ module _ (plant : Plant) (i : ℕ) where
       (one_fails (eqb (source_at plant i).state 2) (eqb (source_at plant i).enabled 1) (put plant (source_at plant i).target 0x3d (device_entry plant i)).room _ _ refl e)
 
 -- the guest that has the source
-module _ (tables : Tables) (d : Device) (keep : keep_rules tables ≡ true) (g : ℕ) (there : g < tables.guests) (owner : owner_of tables (Event.Raise d) ≡ Owner.Guest g) where
+module _ (tables : Tables) (d : Device) (keep : keep_rules tables ≡ true) (g : ℕ) (there : g < tables.guests) (owner : owner_of tables (Event.Raise d) ≡ Some g) where
   abbrev plant : Plant
   plant = plant_at tables g
 
   -- enabled is 0 or 1
-  off : (i : ℕ) → sysino_of plant d.devhandle d.devino ≡ Found.At i → ((source_at plant i).enabled ≡ 1 → ⊥) → (source_at plant i).enabled ≡ 0
+  off : (i : ℕ) → sysino_of plant d.devhandle d.devino ≡ Some i → ((source_at plant i).enabled ≡ 1 → ⊥) → (source_at plant i).enabled ≡ 0
   unfolding sysino_of
   off i at n =
       let right = source_there _ plant (plant_keeps_lem tables keep g there) i (first_below_lem plant.sources i _ at) in
       omega (arith, n, leb-true (source_at plant i).enabled 1 (enabled_part plant (source_at plant i) right))
 
-  by_source : (f : Found) → sysino_of plant d.devhandle d.devino ≡ f → (outcome_of plant (found NoSource f grants λ i. raise_at plant i)).answer ≡ One 1 → Received tables d
-  by_source Found.Nothing at e = never NoSource e
-  by_source (Found.At i) at e = record {
+  by_source : (f : Option ℕ) → sysino_of plant d.devhandle d.devino ≡ f → (outcome_of plant (found NoSource f grants λ i. raise_at plant i)).answer ≡ One 1 → Received tables d
+  by_source None at e = never NoSource e
+  by_source (Some i) at e = record {
     guest = g;
     source = i;
     owner = owner;

@@ -1,6 +1,6 @@
 -- Promise: a refusal changes nothing, for every input. The paper says otherwise of EWOULDBLOCK, and of EBADALIGN and ENORADDR
 -- where 0x102 answers them, and of no other.
-use Rattle.std.specs.Prelude.{if◌then◌else◌}
+use Rattle.std.specs.Prelude.{if◌then◌else◌, Some}
 use mathlib.Core.Path.{◌≡◌, refl, ap, ◌∙◌}
 use mathlib.Core.Bool.{Bool, true, false, ◌&&◌, ◌||◌, not}
 use mathlib.Core.List.{List, []}
@@ -101,7 +101,6 @@ module _ (r : Refusal) where
 
     perform_apart : (sight : Sight) (c : Call) (f : Function) → (r ≡ EWOULDBLOCK → ⊥) → ((f ≡ Function.MmustatConf) × Clears r → ⊥) → Granting Apart (perform sight plant c f)
     unfolding perform set_version get_version cpu_qconf cpu_qinfo cpu_myid cpu_mondo_send mmu_tsb_ctx0 mmu_tsb_ctxnon0 mem_scrub mem_sync mmustat_info intr_devino2sysino intr vintr
-    perform_apart sight c Function.Unknown m n = tt
     perform_apart sight c Function.SetVersion m n =
         by_then Apart (known (group_of c.arg0)) EINVAL _
         (by_then Apart (leb 1 c.arg1 && leb c.arg1 (newest (group_of c.arg0))) ENOTSUPPORTED _
@@ -137,7 +136,7 @@ module _ (r : Refusal) where
     unfolding plant_rule write_head raise raise_at load_word store_word
     event_apart sight (Event.Call c) n =
         by_then Apart (ltb c.cpu plant.cpus) NoCaller _
-        (by_call Apart sight plant c (perform_apart sight c (function_of c.trap c.function) (λ e. n (inl e)) (λ e. n (inr e))))
+        (by_call Apart sight plant c (λ f e. perform_apart sight c f (λ q. n (inl q)) (λ k. n (inr (e ∙ ap Some k.0, k.1)))))
     event_apart sight (Event.Head h) n =
         by_then Apart (ltb h.cpu plant.cpus) NoCaller _
         (by_then Apart (is_queue h.queue) EINVAL _

@@ -1,9 +1,8 @@
 -- What a ruling comes to, by the way a rule reads.
-use Rattle.std.specs.Prelude.{if◌then◌else◌}
+use Rattle.std.specs.Prelude.{if◌then◌else◌, Option, Some, None}
 use mathlib.Core.Path.{◌≡◌, refl}
 use mathlib.Core.Bool.{Bool, true, false}
 use Prim.Native.Nat.{ℕ}
-use Rattle.rules.specs.declared.Found.{Found}
 use Rattle.rules.specs.Rulings.{RulingBy, refused, granted, ◌or_refuse◌then◌, ◌refuses◌then◌, ◌grants◌}
 
 -- P holds of the status that the ruling refuses by, or Q of what it grants
@@ -20,9 +19,9 @@ module _ {R A : Type 0} (P : R → Type 0) (Q : A → Type 0) where
   ruled_then true r x p h = h refl
   ruled_then false r x p h = p refl
 
-  pub ruled_scan : (found : Found) (r : ℕ → R) (x : RulingBy R A) → ((k : ℕ) → found ≡ Found.At k → P (r k)) → (found ≡ Found.Nothing → Ruled P Q x) → Ruled P Q (found refuses r then x)
-  ruled_scan Found.Nothing r x p h = h refl
-  ruled_scan (Found.At k) r x p h = p k refl
+  pub ruled_scan : (found : Option ℕ) (r : ℕ → R) (x : RulingBy R A) → ((k : ℕ) → found ≡ Some k → P (r k)) → (found ≡ None → Ruled P Q x) → Ruled P Q (found refuses r then x)
+  ruled_scan None r x p h = h refl
+  ruled_scan (Some k) r x p h = p k refl
 
   pub ruled_if : (t : Bool) (x y : RulingBy R A) → Ruled P Q x → Ruled P Q y → Ruled P Q (if t then x else y)
   ruled_if true x y h k = h

@@ -1,5 +1,6 @@
 -- Promises of ranges over extents that touch: a range is valid where every one of its bytes lies in some extent, and what does not
 -- leave its page, as a word or a queue entry, does not leave its extent.
+use Rattle.std.proofs.Common.{Option, Some, None}
 use mathlib.Core.Path.{◌≡◌, refl, sym, ap, ◌∙◌}
 use mathlib.Core.Bool.{Bool, true, false, cond, true≢false, false≢true}
 use mathlib.Core.List.{List, [], ◌∷◌}
@@ -13,7 +14,6 @@ use borrow.Author.Tests.{eqb-true, leb-true, leb-false}
 use Rattle.rules.specs.declared.Extent.{Extent}
 use Rattle.rules.specs.declared.Extents.{Extents}
 use Rattle.rules.specs.declared.Host.{Host}
-use Rattle.rules.specs.declared.Place.{Place}
 use Rattle.rules.specs.declared.QueueRecord.{QueueRecord}
 use Rattle.rules.specs.declared.Refusal.{Refusal}
 use Rattle.rules.specs.declared.Refusal.TheVariants.{EINVAL, EBADALIGN, ENORADDR}
@@ -50,7 +50,7 @@ unfolding located
 has_some [] a e = absurd (false≢true e)
 has_some (x ∷ xs) a e = go (has_some xs a) (holds x a) refl e
   where
-    go : (somewhere (located xs a) ≡ true → Has xs a) → (t : Bool) → holds x a ≡ t → somewhere (cond t (Place.At (host_offset x (record { 0 = a }))) (located xs a)) ≡ true → Has (x ∷ xs) a
+    go : (somewhere (located xs a) ≡ true → Has xs a) → (t : Bool) → holds x a ≡ t → somewhere (cond t (Some (host_offset x (record { 0 = a }))) (located xs a)) ≡ true → Has (x ∷ xs) a
     go ih true p q = record { place = 0; there = omega arith; has = p }
     go ih false p q =
         let i = ih q in
@@ -62,7 +62,7 @@ some_has [] a i l p = absurd (omega arith)
 some_has (x ∷ xs) a zero l p = rw p
 some_has (x ∷ xs) a (suc i) l p = go (holds x a) (some_has xs a i (omega arith) p)
   where
-    go : (t : Bool) → somewhere (located xs a) ≡ true → somewhere (cond t (Place.At (host_offset x (record { 0 = a }))) (located xs a)) ≡ true
+    go : (t : Bool) → somewhere (located xs a) ≡ true → somewhere (cond t (Some (host_offset x (record { 0 = a }))) (located xs a)) ≡ true
     go true ih = refl
     go false ih = ih
 
@@ -99,17 +99,17 @@ each_byte = record {
 
 -- What does not leave its page does not leave its extent: extents are whole pages.
 
-within_page : (es : List Extent) (a k : ℕ) (h : Host) → a % page_size + k < page_size → located es a ≡ Place.At h → located es (a + k) ≡ Place.At (record { 0 = h.0 + k })
+within_page : (es : List Extent) (a k : ℕ) (h : Host) → a % page_size + k < page_size → located es a ≡ Some h → located es (a + k) ≡ Some (record { 0 = h.0 + k })
 unfolding located
 within_page [] a k h l e = absurd (nowhere a h e)
 within_page (x ∷ xs) a k h l e = go (within_page xs a k h l) (lies x xs a h e) (holds x (a + k)) refl
   where
-    go : (located xs a ≡ Place.At h → located xs (a + k) ≡ Place.At (record { 0 = h.0 + k })) → Lies x xs a h → (t : Bool) → holds x (a + k) ≡ t
-        → cond t (Place.At (host_offset x (record { 0 = a + k }))) (located xs (a + k)) ≡ Place.At (record { 0 = h.0 + k })
+    go : (located xs a ≡ Some h → located xs (a + k) ≡ Some (record { 0 = h.0 + k })) → Lies x xs a h → (t : Bool) → holds x (a + k) ≡ t
+        → cond t (Some (host_offset x (record { 0 = a + k }))) (located xs (a + k)) ≡ Some (record { 0 = h.0 + k })
     go ih (here p q) true r =
         let g : (host_offset x (record { 0 = a })).0 ≡ h.0 = ap (λ (o : Host). o.0) q in
         let z : (host_offset x (record { 0 = a + k })).0 ≡ h.0 + k = omega (arith, holds_low x a p) in
-        λ i. Place.At (record { 0 = z i })
+        λ i. Some (record { 0 = z i })
     go ih (here p q) false r =
         absurd (true≢false (sym (holds_made x (a + k) (omega (arith, holds_low x a p)) (omega (arith, holds_high x a p))) ∙ r))
     go ih (later p q) true r =
@@ -120,11 +120,11 @@ within_page (x ∷ xs) a k h l e = go (within_page xs a k h l) (lies x xs a h e)
 one_page_lem : (es : List Extent) (a n : ℕ) → 0 < n → a % page_size + n ≤ page_size → valid es a n ≡ true → OneRun es a n
 one_page_lem es a n some fits v = go (located es a) refl
   where
-    go : (p : Place) → located es a ≡ p → OneRun es a n
-    go Place.Nowhere e =
+    go : (p : Option Host) → located es a ≡ p → OneRun es a n
+    go None e =
         let s : somewhere (located es (a + 0)) ≡ true = valid_at es a n 0 v some in
         absurd (true≢false (sym (simp add-zero at s) ∙ ap somewhere e))
-    go (Place.At h) e = record { host = h.0; bytes = λ k l. within_page es a k h (omega arith) e }
+    go (Some h) e = record { host = h.0; bytes = λ k l. within_page es a k h (omega arith) e }
 
 pub words_never_cross : WordsNeverCross
 words_never_cross tables g a aligned v = one_page_lem (extents_of tables g) a 8 (omega arith) (omega arith) v

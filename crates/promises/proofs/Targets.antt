@@ -1,5 +1,5 @@
 -- Promise: after loading each source's target is cpu 0 (request No. 7), and no event changes one but 0xa6 and 0xae.
-use Rattle.std.specs.Prelude.{if◌then◌else◌}
+use Rattle.std.specs.Prelude.{if◌then◌else◌, Option, Some}
 use mathlib.Core.Path.{◌≡◌, refl, ap, ◌∙◌}
 use mathlib.Core.Bool.{Bool, true, false, ◌&&◌, ◌||◌, not}
 use mathlib.Core.List.{List, [], ◌∷◌}
@@ -62,7 +62,7 @@ module _ (plant : Plant) where
   replaced j s e i = set_either (λ x. x.target ≡ (source_at plant i).target) plant.source j i s blank_source (λ q. rw q e) refl
 
   -- versions: going to 2.0 takes no source's target
-  negotiated_aimed : (group : Group) (major i : ℕ) → (source_at (negotiated plant group major) i).target ≡ (source_at plant i).target
+  negotiated_aimed : (group : Option Group) (major i : ℕ) → (source_at (negotiated plant group major) i).target ≡ (source_at plant i).target
   unfolding negotiated all_disabled
   negotiated_aimed group major i = go (ltb (major_of plant.versions group) major && eqb major 2)
     where
@@ -145,9 +145,8 @@ module _ (plant : Plant) where
 
   -- every call but those two
   module _ (sight : Sight) (c : Call) where
-    perform_aimed : (f : Function) → (TargetFunction f → ⊥) → Granting Aimed (perform sight plant c f)
+    perform_aimed : (f : Function) → (TargetFunction (Some f) → ⊥) → Granting Aimed (perform sight plant c f)
     unfolding perform cpu_qinfo cpu_myid mmu_tsb_ctx0 mmu_tsb_ctxnon0 mem_scrub mem_sync mmustat_conf mmustat_info intr_devino2sysino intr vintr with_ctx0 with_ctxnon0
-    perform_aimed Function.Unknown other = tt
     perform_aimed Function.SetVersion other = set_version_aimed c.arg0 c.arg1
     perform_aimed Function.GetVersion other = get_version_aimed c.arg0
     perform_aimed Function.CpuQconf other = qconf_aimed sight.valid c.cpu c.arg0 c.arg1 c.arg2
@@ -162,14 +161,14 @@ module _ (plant : Plant) where
     perform_aimed Function.MmustatInfo other = λ i. refl
     perform_aimed Function.IntrDevino2sysino other = by_value Aimed (found EINVAL (sysino_of plant c.arg0 c.arg1)) _ (λ j _ i. refl)
     perform_aimed (Function.Sysino k) other =
-        by_then Aimed (ltb c.arg0 plant.sources) EINVAL _ (source_aimed c.arg0 c.arg1 k (λ q. other (inl (ap Function.Sysino q))))
+        by_then Aimed (ltb c.arg0 plant.sources) EINVAL _ (source_aimed c.arg0 c.arg1 k (λ q. other (inl (ap (λ (x : SourceCall). Some (Function.Sysino x)) q))))
     perform_aimed (Function.Cookie k) other =
         by_value Aimed (found EINVAL (sysino_of plant c.arg0 c.arg1)) _ (λ j _.
-        by_then Aimed (source_at plant j).cookies ENOTSUPPORTED _ (cookie_aimed j c.arg2 k (λ q. other (inr (ap Function.Cookie q)))))
+        by_then Aimed (source_at plant j).cookies ENOTSUPPORTED _ (cookie_aimed j c.arg2 k (λ q. other (inr (ap (λ (x : CookieCall). Some (Function.Cookie x)) q)))))
 
   event_aimed : (sight : Sight) (event : Event) → (SetsTarget event → ⊥) → Granting Aimed (plant_rule sight plant event)
   unfolding plant_rule load_word store_word
-  event_aimed sight (Event.Call c) other = by_then Aimed (ltb c.cpu plant.cpus) NoCaller _ (by_call Aimed sight plant c (perform_aimed sight c (function_of c.trap c.function) other))
+  event_aimed sight (Event.Call c) other = by_then Aimed (ltb c.cpu plant.cpus) NoCaller _ (by_call Aimed sight plant c (λ f e. perform_aimed sight c f (λ q. other (rw e q))))
   event_aimed sight (Event.Head h) other = by_then Aimed (ltb h.cpu plant.cpus) NoCaller _ (head_aimed h.cpu h.queue h.value)
   event_aimed sight (Event.Raise d) other = raise_aimed d.devhandle d.devino
   event_aimed sight (Event.Load l) other = by_word Aimed sight.valid l.address _ (λ i. refl)

@@ -21,8 +21,8 @@ pub record First (Fault : ℕ → ℕ → Type 0) (g i : ℕ) : Type 0 where
   pub none_before : (f j : ℕ) → Before f j g i → Fault f j → ⊥
 
 -- there is no such fault
-abbrev pub None : (ℕ → ℕ → Type 0) → Type 0
-None Fault = (g i : ℕ) → Fault g i → ⊥
+abbrev pub Nowhere : (ℕ → ℕ → Type 0) → Type 0
+Nowhere Fault = (g i : ℕ) → Fault g i → ⊥
 
 -- what stands at (g, i) "clashes with one before it"
 pub record Clashes (Clash : ℕ → ℕ → ℕ → ℕ → Type 0) (g i : ℕ) : Type 0 where
@@ -99,7 +99,7 @@ NamedAgain tables = Clashes (NamesClash tables)
 
 -- there is none of any of the four kinds
 abbrev pub Faultless : Tables → Type 0
-Faultless tables = None (WrongNumbers tables) × None (OutOfOrder tables) × None (SharesPages tables) × None (NamedAgain tables)
+Faultless tables = Nowhere (WrongNumbers tables) × Nowhere (OutOfOrder tables) × Nowhere (SharesPages tables) × Nowhere (NamedAgain tables)
 
 -- the image's fields were read up to the last, and this holds of the tables that they give, and of the bit behind the last field
 pub record FieldsGive (bytes : List ℕ) (Holds : Tables → ℕ → Type 0) : Type 0 where
@@ -123,7 +123,7 @@ abbrev pub Tells : List ℕ → ImageRefusal → Type 0
 Tells bytes ImageShort = Unread bytes
 Tells bytes (HeaderOrCount g) = HeaderFault bytes g ⊎ CountFault bytes g
 Tells bytes (ExtentNumbers g i) = FieldsGive bytes (λ t _. First (WrongNumbers t) g i)
-Tells bytes (ExtentOrder g i) = FieldsGive bytes (λ t _. None (WrongNumbers t) × First (OutOfOrder t) g i)
-Tells bytes (PagesShared g i) = FieldsGive bytes (λ t _. None (WrongNumbers t) × None (OutOfOrder t) × First (SharesPages t) g i)
-Tells bytes (SourceTwice g i) = FieldsGive bytes (λ t _. None (WrongNumbers t) × None (OutOfOrder t) × None (SharesPages t) × First (NamedAgain t) g i)
+Tells bytes (ExtentOrder g i) = FieldsGive bytes (λ t _. Nowhere (WrongNumbers t) × First (OutOfOrder t) g i)
+Tells bytes (PagesShared g i) = FieldsGive bytes (λ t _. Nowhere (WrongNumbers t) × Nowhere (OutOfOrder t) × First (SharesPages t) g i)
+Tells bytes (SourceTwice g i) = FieldsGive bytes (λ t _. Nowhere (WrongNumbers t) × Nowhere (OutOfOrder t) × Nowhere (SharesPages t) × First (NamedAgain t) g i)
 Tells bytes (FillOrBehind n) = FieldsGive bytes (λ t end. Faultless t × (filled_out bytes end ≡ false) × (n ≡ t.guests))

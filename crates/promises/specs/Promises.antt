@@ -1,13 +1,13 @@
 -- What is promised, as propositions: read this file first. The theorem that proves each is named in front of it, and stands in
 -- proofs/. The words are those of Words.antt, Machine.antt, Resent.antt, Places.antt and Hits.antt beside this file, of Again.antt in
 -- crate roundtrip, and of the rules; docs/PROMISES.md lists them all.
-use Rattle.std.specs.Prelude.{◌≡◌, true, false, ◌&&◌, List, ◌++◌, ℕ, ◌+◌, ◌*◌, ◌%◌, ◌<◌, ◌≤◌, eqb, length, replicate, take, drop}
+use Rattle.std.specs.Prelude.{◌≡◌, true, false, ◌&&◌, List, ◌++◌, ℕ, ◌+◌, ◌*◌, ◌%◌, ◌<◌, ◌≤◌, eqb, length, replicate, take, drop, Ok, Err}
 use Rattle.rules.specs.declared.Answer.TheVariants.{Done, One, Refused}
 use Rattle.rules.specs.declared.Call.{Call}
 use Rattle.rules.specs.declared.Device.{Device}
 use Rattle.rules.specs.declared.Event.{Event}
 use Rattle.rules.specs.declared.ImageRefusal.{ImageRefusal}
-use Rattle.rules.specs.declared.Loading.{Loading}
+use Rattle.rules.specs.Types.{Loading}
 use Rattle.rules.specs.declared.Plant.{Plant}
 use Rattle.rules.specs.declared.QueueRecord.{QueueRecord}
 use Rattle.rules.specs.declared.Refusal.{Refusal}
@@ -16,7 +16,7 @@ use Rattle.rules.specs.declared.Ring.{Ring}
 use Rattle.rules.specs.declared.Tables.{Tables}
 use Rattle.rules.specs.declared.TsbHit.{TsbHit}
 use Rattle.rules.specs.declared.WriteRefusal.{WriteRefusal}
-use Rattle.rules.specs.declared.Writing.{Writing}
+use Rattle.rules.specs.Types.{Writing}
 use Rattle.rules.specs.Limits.{guest_limit, queue_limit}
 use Rattle.rules.specs.Kept.{guest_at, plant_at, cpu_at, queue_at, extents_of}
 use Rattle.rules.specs.Scan.{◌is_from◌to◌}
@@ -57,33 +57,33 @@ pub record Kept : Type 0 where
 -- `places`: "Value 1 is the guest number of the first fault .., value 2 the position of the extent or source in that guest".
 pub record Places : Type 0 where
   -- of every image that is refused, what the refusal tells is so
-  pub refused_tells : (bytes : List ℕ) (r : ImageRefusal) → (load bytes).answer ≡ Loading.Refused r → Tells bytes r
+  pub refused_tells : (bytes : List ℕ) (r : ImageRefusal) → (load bytes).answer ≡ Err r → Tells bytes r
   -- an image that is accepted is right, and its tables are those that are loaded
-  pub accepted_right : (bytes : List ℕ) → (load bytes).answer ≡ Loading.Accepted → Right bytes (load bytes).tables
+  pub accepted_right : (bytes : List ℕ) → (load bytes).answer ≡ (Ok tt) → Right bytes (load bytes).tables
   -- and one that is right is accepted: nothing but a fault refuses an image
-  pub right_accepted : (bytes : List ℕ) (tables : Tables) → Right bytes tables → load bytes ≡ record { answer = Loading.Accepted; tables = tables }
+  pub right_accepted : (bytes : List ℕ) (tables : Tables) → Right bytes tables → load bytes ≡ record { answer = (Ok tt); tables = tables }
 
 -- Writing partition images (request No. 2).
 
 -- `images`: what is loaded and written, written and loaded.
 pub record Images : Type 0 where
   -- "Every accepted image, loaded and written, gives back the same bytes": into every buffer that has room for them
-  pub written_again : (bytes buffer : List ℕ) → Bytes bytes → (load bytes).answer ≡ Loading.Accepted → length bytes ≤ length buffer
-      → write_image (load bytes).tables buffer ≡ record { answer = Writing.Written (length bytes); buffer = bytes ++ drop (length bytes) buffer }
+  pub written_again : (bytes buffer : List ℕ) → Bytes bytes → (load bytes).answer ≡ (Ok tt) → length bytes ≤ length buffer
+      → write_image (load bytes).tables buffer ≡ record { answer = Ok (length bytes); buffer = bytes ++ drop (length bytes) buffer }
   -- "whatever is written loads to the same partition": these tables with every setting as after loading
   pub loaded_again_lem : (tables : Tables) (buffer : List ℕ) (n : ℕ) → Whole tables
-      → (write_image tables buffer).answer ≡ Writing.Written n
-      → load (take n (write_image tables buffer).buffer) ≡ record { answer = Loading.Accepted; tables = as_loaded tables }
+      → (write_image tables buffer).answer ≡ Ok n
+      → load (take n (write_image tables buffer).buffer) ≡ record { answer = (Ok tt); tables = as_loaded tables }
   -- and all tables that keep the rules and have a guest are written, where there is room
   pub is_written : (tables : Tables) (buffer : List ℕ) → keep_rules tables ≡ true → 1 ≤ tables.guests
-      → length (image_of tables) ≤ length buffer → (write_image tables buffer).answer ≡ Writing.Written (length (image_of tables))
+      → length (image_of tables) ≤ length buffer → (write_image tables buffer).answer ≡ Ok (length (image_of tables))
   -- "Only the partition is written": one partition has one image, whatever its guests configured
   pub same_image : (t u : Tables) → SamePartition t u → image_of t ≡ image_of u
   -- and one image is one partition
   pub same_partition : (t u : Tables) → Whole t → Whole u → keep_rules t ≡ true → keep_rules u ≡ true → 1 ≤ t.guests → 1 ≤ u.guests
       → image_of t ≡ image_of u → as_loaded t ≡ as_loaded u
   -- each refusal "leaves the buffer unchanged"
-  pub refused_leaves : (tables : Tables) (buffer : List ℕ) (r : WriteRefusal) → (write_image tables buffer).answer ≡ Writing.Refused r
+  pub refused_leaves : (tables : Tables) (buffer : List ℕ) (r : WriteRefusal) → (write_image tables buffer).answer ≡ Err r
       → (write_image tables buffer).buffer ≡ buffer
 
 -- `plan_enough`: no input of the program `plan` needs more than its first 97 lines of 2,049 bytes to be answered.

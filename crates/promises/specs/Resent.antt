@@ -1,5 +1,5 @@
 -- The words in which the promises speak of a mondo's list that is sent again.
-use Rattle.std.specs.Prelude.{◌≡◌, List, [], ◌∷◌, ℕ, ◌+◌, ◌-◌, ◌*◌, ◌/◌, ◌%◌, ◌≤◌, ◌<◌, eqb, if◌then◌else◌}
+use Rattle.std.specs.Prelude.{◌≡◌, List, [], ◌∷◌, ℕ, ◌+◌, ◌-◌, ◌*◌, ◌/◌, ◌%◌, ◌≤◌, ◌<◌, eqb, if◌then◌else◌, Some}
 use Rattle.rules.specs.declared.Call.{Call}
 use Rattle.rules.specs.declared.Function.{Function}
 use Rattle.rules.specs.declared.Plant.{Plant}
@@ -13,7 +13,7 @@ use Rattle.promises.specs.Machine.{Machine}
 
 -- a call of 0x42 (count, list, data)
 abbrev pub MondoCall : Call → Type 0
-MondoCall c = function_of c.trap c.function ≡ Function.CpuMondoSend
+MondoCall c = function_of c.trap c.function ≡ Some Function.CpuMondoSend
 
 -- the entries of its list as they read, and the 64 bytes of data
 abbrev pub list_of : Sight → Call → List ℕ

@@ -1,5 +1,5 @@
 -- The words in which the promises speak of a host, which is its tables and its memory, and of events.
-use Rattle.std.specs.Prelude.{◌≡◌, Bool, true, false, List, [], ◌∷◌, ◌⊎◌, ℕ, ◌+◌, ◌<◌, eqb, length, if◌then◌else◌}
+use Rattle.std.specs.Prelude.{◌≡◌, Bool, true, false, List, [], ◌∷◌, ◌⊎◌, ℕ, ◌+◌, ◌<◌, eqb, length, if◌then◌else◌, Option, Some, None}
 use Rattle.rules.specs.declared.Answer.{Answer}
 use Rattle.rules.specs.declared.Call.{Call}
 use Rattle.rules.specs.declared.CookieCall.{CookieCall}
@@ -7,10 +7,7 @@ use Rattle.rules.specs.declared.Device.{Device}
 use Rattle.rules.specs.declared.Event.{Event}
 use Rattle.rules.specs.declared.Extent.{Extent}
 use Rattle.rules.specs.declared.Extents.{Extents}
-use Rattle.rules.specs.declared.Found.{Found}
 use Rattle.rules.specs.declared.Function.{Function}
-use Rattle.rules.specs.declared.Owner.{Owner}
-use Rattle.rules.specs.declared.Place.{Place}
 use Rattle.rules.specs.declared.QueueRecord.{QueueRecord}
 use Rattle.rules.specs.declared.Refusal.{Refusal}
 use Rattle.rules.specs.declared.Refusal.TheVariants.{EBADALIGN, ENORADDR, EWOULDBLOCK}
@@ -31,9 +28,9 @@ pub record Passes (tables : Tables) (memory : List ℕ) : Type 0 where
   pub long : long_enough tables (length memory) ≡ true
 
 -- the owner is guest g
-abbrev pub is_owner : ℕ → Owner → Bool
-is_owner g Owner.Nobody = false
-is_owner g (Owner.Guest h) = eqb h g
+abbrev pub is_owner : ℕ → Option ℕ → Bool
+is_owner g None = false
+is_owner g (Some h) = eqb h g
 
 -- the event belongs to guest g
 abbrev pub belongs : Tables → ℕ → Event → Bool
@@ -81,7 +78,7 @@ pub record InSome (extents : Extents) (a : ℕ) : Type 0 where
 -- the n bytes from a on lie one behind another on the host
 pub record OneRun (extents : List Extent) (a n : ℕ) : Type 0 where
   pub host : ℕ
-  pub bytes : (k : ℕ) → k < n → located extents (a + k) ≡ Place.At (record { 0 = host + k })
+  pub bytes : (k : ℕ) → k < n → located extents (a + k) ≡ Some (record { 0 = host + k })
 
 -- the same real extents, host pages aside
 abbrev pub SameReal : List Extent → List Extent → Type 0
@@ -91,17 +88,17 @@ SameReal (x ∷ xs) [] = ⊥
 SameReal (x ∷ xs) (y ∷ ys) = (x.real ≡ y.real) × (x.count ≡ y.count) × SameReal xs ys
 
 -- the function that a call asks for, by its trap and number; the other events ask for none
-abbrev pub function_asked : Event → Function
+abbrev pub function_asked : Event → Option Function
 function_asked (Event.Call c) = function_of c.trap c.function
-function_asked (Event.Head h) = Function.Unknown
-function_asked (Event.Raise d) = Function.Unknown
-function_asked (Event.Load l) = Function.Unknown
-function_asked (Event.Store s) = Function.Unknown
-function_asked (Event.Hit t) = Function.Unknown
+function_asked (Event.Head h) = None
+function_asked (Event.Raise d) = None
+function_asked (Event.Load l) = None
+function_asked (Event.Store s) = None
+function_asked (Event.Hit t) = None
 
 -- a call of 0x102
 abbrev pub StatisticsCall : Event → Type 0
-StatisticsCall event = function_asked event ≡ Function.MmustatConf
+StatisticsCall event = function_asked event ≡ Some Function.MmustatConf
 
 -- the refusals of 0x102 that "set the statistics address to 0"
 abbrev pub Clears : Refusal → Type 0
@@ -120,8 +117,8 @@ abbrev pub target_at : Tables → ℕ → ℕ → ℕ
 target_at tables g i = (source_at (plant_at tables g) i).target
 
 -- the two functions that set a target, 0xa6 and 0xae
-abbrev pub TargetFunction : Function → Type 0
-TargetFunction f = (f ≡ Function.Sysino SourceCall.SetTarget) ⊎ (f ≡ Function.Cookie (CookieCall.Source SourceCall.SetTarget))
+abbrev pub TargetFunction : Option Function → Type 0
+TargetFunction f = (f ≡ Some (Function.Sysino SourceCall.SetTarget)) ⊎ (f ≡ Some (Function.Cookie (CookieCall.Source SourceCall.SetTarget)))
 
 -- a call of one of them
 abbrev pub SetsTarget : Event → Type 0
@@ -136,7 +133,7 @@ NoRoom (QueueRecord.Set ring) = has_room ring ≡ false
 pub record Received (tables : Tables) (d : Device) : Type 0 where
   pub guest : ℕ
   pub source : ℕ
-  pub owner : owner_of tables (Event.Raise d) ≡ Owner.Guest guest
-  pub found : sysino_of (plant_at tables guest) d.devhandle d.devino ≡ Found.At source
+  pub owner : owner_of tables (Event.Raise d) ≡ Some guest
+  pub found : sysino_of (plant_at tables guest) d.devhandle d.devino ≡ Some source
   pub why : ((source_at (plant_at tables guest) source).enabled ≡ 0)
       ⊎ NoRoom (queue_at (cpu_at (plant_at tables guest) (target_at tables guest source)) (index_of 0x3d))
