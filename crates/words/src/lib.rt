@@ -2,7 +2,7 @@
 // record, so the contracts hold for every plant.
 #![tactic(auto)]
 
-ghost use Rattle.std.specs.Prelude.{◌≡◌, ◌≤◌, min, length};
+ghost use Rattle.std.specs.Prelude.{◌≡◌, ◌≤◌, length};
 ghost use Rattle.rules.specs.declared.Plant.{Plant as PlantRecord};
 ghost use Rattle.rules.specs.Limits.{extent_limit};
 ghost use Rattle.rules.specs.Real.{valid, sight_of};
@@ -14,7 +14,6 @@ ghost use Rattle.plants.specs.Follows.{Follows};
 ghost use Rattle.plants.specs.Judged.{judged};
 
 use plants::{Done, told};
-use records::Verdict;
 use rules::{Answer, Extents, PAGE_SIZE, Real, Refusal};
 
 const PAGE: u64 = PAGE_SIZE as u64;
@@ -23,44 +22,34 @@ const PAGE: u64 = PAGE_SIZE as u64;
 const SCRUB: u64 = 32768;
 
 // What scrub and sync ask of a range.
-fn judge_pages(extents: Extents, address: u64, size: u64) -> Verdict
+fn judge_pages(extents: Extents, address: u64, size: u64) -> Result<(), Refusal>
     requires { extents.extents ≤ extent_limit }
     ensures { (rest : Ruling Outcome) → whole_pages (valid (present extents)) address size rest ≡ judged result rest }
 {
     if size == 0 {
-        return Verdict::Refused(Refusal::EINVAL);
+        return Err(Refusal::EINVAL);
     }
-    if address % PAGE != 0 {
-        return Verdict::Refused(Refusal::EBADALIGN);
-    }
-    if size % PAGE != 0 {
-        return Verdict::Refused(Refusal::EBADALIGN);
+    if address % PAGE != 0 || size % PAGE != 0 {
+        return Err(Refusal::EBADALIGN);
     }
     if !memory::range_valid(extents, address, size) {
-        return Verdict::Refused(Refusal::ENORADDR);
+        return Err(Refusal::ENORADDR);
     }
-    Verdict::Right
+    Ok(())
 }
 
 // What store and load ask of an address.
-fn judge_word(extents: Extents, address: u64) -> Verdict
+fn judge_word(extents: Extents, address: u64) -> Result<(), Refusal>
     requires { extents.extents ≤ extent_limit }
     ensures { (rest : Ruling Outcome) → whole_word (valid (present extents)) address rest ≡ judged result rest }
 {
     if address % 8 != 0 {
-        return Verdict::Refused(Refusal::EBADALIGN);
+        return Err(Refusal::EBADALIGN);
     }
     if !memory::range_valid(extents, address, 8) {
-        return Verdict::Refused(Refusal::ENORADDR);
+        return Err(Refusal::ENORADDR);
     }
-    Verdict::Right
-}
-
-// How much of a range one scrub zeroes.
-fn scrubbed(size: u64) -> u64
-    ensures { result ≡ min size 32768 }
-{
-    if size < SCRUB { size } else { SCRUB }
+    Ok(())
 }
 
 // 0x31: the first bytes of a range of pages become 0.
@@ -71,11 +60,10 @@ pub fn mem_scrub(extents: Extents, mem: &mut [u8], address: u64, size: u64) -> D
         Follows extents plant (mem_scrub (valid (present extents)) plant address size)
         mem.old result mem.new }
 {
-    let verdict = judge_pages(extents, address, size);
-    match verdict {
-        Verdict::Refused(r) => told(Answer::Refused(r)),
-        Verdict::Right => {
-            let n = scrubbed(size);
+    match judge_pages(extents, address, size) {
+        Err(r) => told(Answer::Refused(r)),
+        Ok(()) => {
+            let n = size.min(SCRUB);
             memory::zero_at(extents, mem, Real(address), n as usize);
             told(Answer::One(n))
         }
@@ -87,10 +75,9 @@ pub fn mem_sync(extents: Extents, address: u64, size: u64) -> Done
     requires { extents.extents ≤ extent_limit }
     ensures { (plant : PlantRecord) → quietly plant result ≡ outcome_of plant (mem_sync (valid (present extents)) plant address size) }
 {
-    let verdict = judge_pages(extents, address, size);
-    match verdict {
-        Verdict::Refused(r) => told(Answer::Refused(r)),
-        Verdict::Right => told(Answer::One(size)),
+    match judge_pages(extents, address, size) {
+        Err(r) => told(Answer::Refused(r)),
+        Ok(()) => told(Answer::One(size)),
     }
 }
 
@@ -102,10 +89,9 @@ pub fn store_word(extents: Extents, mem: &mut [u8], address: u64, value: u64) ->
         Follows extents plant (store_word (valid (present extents)) plant address value)
         mem.old result mem.new }
 {
-    let verdict = judge_word(extents, address);
-    match verdict {
-        Verdict::Refused(r) => told(Answer::Refused(r)),
-        Verdict::Right => {
+    match judge_word(extents, address) {
+        Err(r) => told(Answer::Refused(r)),
+        Ok(()) => {
             let word = memory::word_bytes(value);
             memory::write_at(extents, mem, Real(address), &word);
             told(Answer::Done)
@@ -121,11 +107,10 @@ pub fn load_word(extents: Extents, mem: &[u8], address: u64) -> Done
         Follows extents plant (load_word (sight_of (present extents) mem.now) plant address)
         mem.now result mem.now }
 {
-    let verdict = judge_word(extents, address);
-    match verdict {
-        Verdict::Refused(r) => told(Answer::Refused(r)),
-        Verdict::Right => {
-            let word = memory::number8(extents, mem, Real(address));
+    match judge_word(extents, address) {
+        Err(r) => told(Answer::Refused(r)),
+        Ok(()) => {
+            let word = memory::number::<8>(extents, mem, Real(address));
             told(Answer::One(word))
         }
     }

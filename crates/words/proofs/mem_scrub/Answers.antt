@@ -6,8 +6,8 @@ use Rattle.words.proofs.mem_scrub.Goals as goal
 pub zero_at-requires : goal.zero_at-requires
 zero_at-requires c = search scrub_first
 
-pub returns-in-Refused : goal.returns-in-Refused
-returns-in-Refused c = search (quiet_refused, scrub_refused)
+pub returns-in-Err : goal.returns-in-Err
+returns-in-Err c = search (quiet_refused, scrub_refused)
 
-pub returns-in-Right : goal.returns-in-Right
-returns-in-Right c = search scrub_done
+pub returns-in-Ok : goal.returns-in-Ok
+returns-in-Ok c = search scrub_done

@@ -3,11 +3,11 @@ use Rattle.plants.proofs.OutcomeLaws.{quiet_refused}
 use Rattle.words.proofs.WordLaws.{word_bytes_valid, store_refused, store_done}
 use Rattle.words.proofs.store_word.Goals as goal
 
-pub write_at-requires : goal.write_at-requires
-write_at-requires c = search word_bytes_valid
+pub write_at-requires-clause-src_value : goal.write_at-requires-clause-src_value
+write_at-requires-clause-src_value c = search word_bytes_valid
 
-pub returns-in-Refused : goal.returns-in-Refused
-returns-in-Refused c = search (quiet_refused, store_refused)
+pub returns-in-Err : goal.returns-in-Err
+returns-in-Err c = search (quiet_refused, store_refused)
 
-pub returns-in-Right : goal.returns-in-Right
-returns-in-Right c = search store_done
+pub returns-in-Ok : goal.returns-in-Ok
+returns-in-Ok c = search store_done
