@@ -13,7 +13,6 @@ ghost use Rattle.plants.specs.Follows.{Follows};
 
 use plants::{Done, told};
 use rules::{Answer, Cpu, Extents, Real, Refusal};
-use std::num::wrapping_add_u64;
 
 // The word at a real address and n, added modulo 2^64.
 fn sum_at(extents: Extents, mem: &[u8], real: Real, n: u64) -> u64
@@ -22,8 +21,7 @@ fn sum_at(extents: Extents, mem: &[u8], real: Real, n: u64) -> u64
     requires real_value { valid (present extents) real.0 8 ≡ true }
     ensures { result ≡ (number_of (byte_at (present extents) mem.now) real.0 8 + n) % 2 ^ 64 }
 {
-    let word = memory::number8(extents, mem, real);
-    wrapping_add_u64(word, n)
+    memory::number::<8>(extents, mem, real).wrapping_add(n)
 }
 
 // Where in the buffer the hits are counted: a half for each side, of it a half for each context, of that 16 bytes for each page index.
@@ -65,13 +63,7 @@ pub fn tsb_hit(
         → Follows extents plant (tsb_hit (sight_of (present extents) mem.old) plant cpu side context index ticks)
         mem.old result mem.new }
 {
-    if 1 < side {
-        return told(Answer::Refused(Refusal::EINVAL));
-    }
-    if 1 < context {
-        return told(Answer::Refused(Refusal::EINVAL));
-    }
-    if !records::is_page_index(index) {
+    if side > 1 || context > 1 || !records::is_page_index(index) {
         return told(Answer::Refused(Refusal::EINVAL));
     }
     let address = own.statistics;

@@ -5,15 +5,14 @@ use Rattle.hits.proofs.HitLaws.{index_most, row_valid, hit_side, hit_context, hi
 use borrow.Author.Rules.{rules}
 use mathlib.Core.Bool.{not}
 use Rattle.hits.proofs.tsb_hit.Goals as goal
+use Rattle.hits.proofs.tsb_hit.Goals.{then-side-gt1-via-then-side-gt1, then-side-gt1-via-else-side-gt1+then-context-gt1, then-side-gt1-via-else-side-gt1+else-context-gt1+then-not-is_page_index}
 
 pub returns-then-side-gt1 : goal.returns-then-side-gt1
-returns-then-side-gt1 c = λ plant cpu o. search hit_side
-
-pub returns-then-context-gt1 : goal.returns-then-context-gt1
-returns-then-context-gt1 c = λ plant cpu o. search hit_context
-
-pub returns-then-not-is_page_index : goal.returns-then-not-is_page_index
-returns-then-not-is_page_index c = λ plant cpu o. search hit_index
+returns-then-side-gt1 c = λ plant cpu o. elim c.then-side-gt1.branch [
+  | then-side-gt1-via-then-side-gt1 w ↦ search hit_side
+  | then-side-gt1-via-else-side-gt1+then-context-gt1 w ↦ search hit_context
+  | then-side-gt1-via-else-side-gt1+else-context-gt1+then-not-is_page_index w ↦ search hit_index
+]
 
 pub returns-then-address-eq0 : goal.returns-then-address-eq0
 returns-then-address-eq0 c = λ plant cpu o. search hit_none
