@@ -1,135 +1,154 @@
--- Laws of an image's text. Of what is read so far, `done` are the whole bytes, and high is the digit that waits: 16 where none does.
-use Rattle.std.specs.Prelude.{if◌then◌else◌}
-use mathlib.Core.Bool.{Bool, true, false}
+-- Laws of an image's text. Of what is read so far, `done` are the whole bytes, and high is the digit that waits for the second one of its byte.
+use Rattle.std.specs.Prelude.{if◌then◌else◌, Option, Some, None}
+use Rattle.std.specs.Option.{option_map}
+use Rattle.std.proofs.lemmas.List.{take_rest}
 use mathlib.Core.Path.{◌≡◌, refl, sym, ◌∙◌}
 use mathlib.Core.List.{List, [], ◌∷◌, ◌++◌, append_assoc, append-nil}
-use mathlib.Core.Option.{Option, none, some}
-use Prim.Native.Nat.{ℕ, ◌+◌, ◌*◌, ◌<◌, ◌≤◌}
+use Prim.Native.Nat.{ℕ, ◌+◌, ◌-◌, ◌*◌, ◌<◌, ◌≤◌}
 use native.Mathlib.Nat.{zero-add}
 use native.Mathlib.Numerals.{add-one}
 use native.Mathlib.Omega.{arith}
-use lib.Dec.{eqb}
-use lib.ListN.{length, get_or, drop, set, drop_of_length-le, length-append}
+use lib.ListN.{length, get_or, take, drop, set, drop_of_length-le, length-append}
 use lib.Seq.{sets, drop-cons}
 use borrow.Author.Tests.{eq-eqb, ne_eqb}
 use Rattle.rules.specs.Text.{space, digit_of, digits, consed, byte_of, paired, paired_or}
-use Rattle.text.specs.declared.digits.Size.{Size}
-use Rattle.text.specs.declared.digits.Size.TheVariants.{Bad, Bytes}
-use Rattle.text.specs.Pieces.{unspaced, image_at, digit_or, size_or}
+use Rattle.text.specs.Pieces.{unspaced, image_at}
 use Rattle.text.proofs.Stores.{sets_append}
-use Rattle.text.proofs.NumberLaws.{tells_none, tells_some}
+use Rattle.text.proofs.NumberLaws.{digit_below}
 
-abbrev with_high : ℕ → Option (List ℕ) → Option (List ℕ)
-with_high high ds = if eqb high 16 then ds else consed (some high) ds
+abbrev with_high : Option ℕ → Option (List ℕ) → Option (List ℕ)
+with_high None ds = ds
+with_high (Some high) ds = consed (Some high) ds
 
 abbrev prepended : List ℕ → Option (List ℕ) → Option (List ℕ)
-prepended done none = none
-prepended done (some bytes) = some (done ++ bytes)
+prepended done None = None
+prepended done (Some bytes) = Some (done ++ bytes)
 
 -- the whole image, from what is done, what waits and what is left of the text
-unfoldable pub image_from : List ℕ → ℕ → List ℕ → Option (List ℕ)
+unfoldable pub image_from : List ℕ → Option ℕ → List ℕ → Option (List ℕ)
 image_from done high bs = prepended done (paired_or (with_high high (digits (unspaced bs))))
 
-image_start : (bs : List ℕ) → image_from [] 16 bs ≡ image_at bs
+image_start : (bs : List ℕ) → image_from [] None bs ≡ image_at bs
 unfolding image_from image_at
 image_start bs = go (paired_or (digits (unspaced bs)))
   where
     go : (o : Option (List ℕ)) → prepended [] o ≡ o
-    go none = refl
-    go (some bytes) = refl
+    go None = refl
+    go (Some bytes) = refl
 
-module _ (s done : List ℕ) (high i : ℕ) (w : Option (List ℕ)) (e : image_from done high (drop i s) ≡ w) where
-  module _ (h : i < length s) where
-    image_space : get_or s i 0 ≡ space → image_from done high (drop (i + 1) s) ≡ w
+module _ (t done : List ℕ) (i : ℕ) (w : Option (List ℕ)) where
+  module _ (h : i < length t) where
+    image_space : (high : Option ℕ) → image_from done high (drop i t) ≡ w → get_or t i 0 ≡ space → image_from done high (drop (i + 1) t) ≡ w
     unfolding image_from unspaced
-    image_space q =
-        let z : unspaced (drop i s) ≡ unspaced (drop (i + 1) s) = rw (drop-cons s i 0 h, eq-eqb _ _ q, add-one) in
+    image_space high e q =
+        let z : unspaced (drop i t) ≡ unspaced (drop (i + 1) t) = rw (drop-cons t i 0 h, eq-eqb _ _ q, add-one) in
         rw (← z) e
 
-    module _ (f : get_or s i 0 ≡ space → ⊥) where
-      read : digits (unspaced (drop i s)) ≡ consed (digit_of (get_or s i 0)) (digits (unspaced (drop (i + 1) s)))
+    module _ (f : get_or t i 0 ≡ space → ⊥) where
+      read : digits (unspaced (drop i t)) ≡ consed (digit_of (get_or t i 0)) (digits (unspaced (drop (i + 1) t)))
       unfolding unspaced digits
-      read = rw (drop-cons s i 0 h, ne_eqb _ _ f, add-one)
+      read = rw (drop-cons t i 0 h, ne_eqb _ _ f, add-one)
 
-      module _ (d : ℕ) (q : d ≡ digit_or (digit_of (get_or s i 0))) where
-        image_bad : d ≡ 16 → w ≡ none
+      image_bad : (high : Option ℕ) → image_from done high (drop i t) ≡ w → digit_of (get_or t i 0) ≡ None → w ≡ None
+      unfolding image_from
+      image_bad None e q = sym e ∙ rw (read, q)
+      image_bad (Some high) e q = sym e ∙ rw (read, q)
+
+      module _ (d : ℕ) (q : digit_of (get_or t i 0) ≡ Some d) where
+        image_waits : image_from done None (drop i t) ≡ w → image_from done (Some d) (drop (i + 1) t) ≡ w
         unfolding image_from
-        image_bad n = sym e ∙ rw (read, tells_none _ d q n) (go (eqb high 16))
+        image_waits e = sym (sym e ∙ rw (read, q))
+
+        image_byte : (high : ℕ) → image_from done (Some high) (drop i t) ≡ w → image_from (done ++ ((high * 16 + d) ∷ [])) None (drop (i + 1) t) ≡ w
+        unfolding image_from paired
+        image_byte high e = sym (sym e ∙ rw (read, q) (go (digits (unspaced (drop (i + 1) t)))))
           where
-            go : (t : Bool) → prepended done (paired_or (if t then none else none)) ≡ none
-            go true = refl
-            go false = refl
+            there : (o : Option (List ℕ)) → prepended done (byte_of high d o) ≡ prepended (done ++ ((high * 16 + d) ∷ [])) o
+            there None = refl
+            there (Some bytes) = rw append_assoc
 
-        module _ (n : d ≡ 16 → ⊥) where
-          image_waits : high ≡ 16 → image_from done d (drop (i + 1) s) ≡ w
-          unfolding image_from
-          image_waits g = sym (sym e ∙ rw (read, (tells_some _ d q n).0, eq-eqb _ _ g, ne_eqb _ _ n))
+            go : (o : Option (List ℕ)) → prepended done (paired_or (consed (Some high) (consed (Some d) o))) ≡ prepended (done ++ ((high * 16 + d) ∷ [])) (paired_or o)
+            go None = refl
+            go (Some ds) = there (paired ds)
 
-          image_byte : (high ≡ 16 → ⊥) → image_from (done ++ ((high * 16 + d) ∷ [])) 16 (drop (i + 1) s) ≡ w
-          unfolding image_from paired
-          image_byte g = sym (sym e ∙ rw (read, (tells_some _ d q n).0, ne_eqb _ _ g) (go (digits (unspaced (drop (i + 1) s)))))
-            where
-              there : (o : Option (List ℕ)) → prepended done (byte_of high d o) ≡ prepended (done ++ ((high * 16 + d) ∷ [])) o
-              there none = refl
-              there (some bytes) = rw append_assoc
-
-              go : (o : Option (List ℕ)) → prepended done (paired_or (consed (some high) (consed (some d) o))) ≡ prepended (done ++ ((high * 16 + d) ∷ [])) (paired_or o)
-              go none = refl
-              go (some ds) = there (paired ds)
-
-  module _ (l : length s ≤ i) where
-    image_odd : (high ≡ 16 → ⊥) → w ≡ none
+  module _ (l : length t ≤ i) where
+    image_odd : (high : ℕ) → image_from done (Some high) (drop i t) ≡ w → w ≡ None
     unfolding image_from unspaced digits paired
-    image_odd g = sym e ∙ rw (drop_of_length-le s l, ne_eqb _ _ g)
+    image_odd high e = sym e ∙ rw (drop_of_length-le t l)
 
-    image_even : high ≡ 16 → w ≡ some done
+    image_even : image_from done None (drop i t) ≡ w → w ≡ Some done
     unfolding image_from unspaced digits paired
-    image_even g = sym e ∙ rw (drop_of_length-le s l, eq-eqb _ _ g, append-nil)
+    image_even e = sym e ∙ rw (drop_of_length-le t l, append-nil)
 
--- what `read_image` answers, of an array that was m and is o
-abbrev pub ReadAs : List ℕ → ℕ → List ℕ → List ℕ → Size → Type 0
-ReadAs s from m o r = (r ≡ size_or (image_at (drop from s))) × ((bytes : List ℕ) → image_at (drop from s) ≡ some bytes → o ≡ sets m 0 bytes)
+-- the text from a place on, as the code takes it
+abbrev pub left : ℕ → List ℕ → List ℕ
+left from s = take (length s - from) (drop from s)
 
-refused : (s : List ℕ) (from : ℕ) (m o : List ℕ) → image_at (drop from s) ≡ none → ReadAs s from m o Bad
-unfolding size_or
-refused s from m o e = (rw e, λ bytes f. absurd (let z : ◌≡◌ {A = ℕ} 0 1 = cc in omega arith))
+-- what `read_image` answers of a text, of an array that was m and is o
+pub record ReadAs (t m o : List ℕ) (r : Option ℕ) : Type 0 where
+  pub size : r ≡ option_map length (image_at t)
+  pub bytes : (bytes : List ℕ) → image_at t ≡ Some bytes → o ≡ sets m 0 bytes
+
+pub read_left : (from : ℕ) (s m o : List ℕ) (r : Option ℕ) → ReadAs (left from s) m o r → ReadAs (drop from s) m o r
+read_left from s m o r w = rw (← take_rest s from) w
+
+refused : (t m o : List ℕ) → image_at t ≡ None → ReadAs t m o None
+refused t m o e = record { size = rw e; bytes = λ bytes f. cc }
+
+-- a digit that waits takes a place of the text
+abbrev pub waiting : Option ℕ → ℕ
+waiting None = 0
+waiting (Some high) = 1
 
 -- the state of `read_image` before its turn i, of an array that was m: its first n bytes are those that are done
-pub record Reading (s : List ℕ) (from : ℕ) (m o : List ℕ) (n high i : ℕ) : Type 0 where
+pub record Reading (t m o : List ℕ) (n : ℕ) (high : Option ℕ) (i : ℕ) : Type 0 where
   pub done : List ℕ
   pub count : n ≡ length done
   pub stored : o ≡ sets m 0 done
-  pub whole : image_from done high (drop i s) ≡ image_at (drop from s)
+  pub few : 2 * n + waiting high ≤ i
+  pub digit : (d : ℕ) → high ≡ Some d → d < 16
+  pub whole : image_from done high (drop i t) ≡ image_at t
 
-pub reading_start : (s : List ℕ) (from : ℕ) (m : List ℕ) → Reading s from m m 0 16 from
-reading_start s from m = record { done = []; count = refl; stored = refl; whole = image_start (drop from s) }
+pub reading_start : (t m : List ℕ) → Reading t m m 0 None 0
+reading_start t m = record { done = []; count = refl; stored = refl; few = omega arith; digit = λ d e. cc; whole = image_start t }
 
-module _ (s : List ℕ) (from : ℕ) (m o : List ℕ) (n high i : ℕ) (r : Reading s from m o n high i) where
-  pub reading_space : i < length s → get_or s i 0 ≡ space → Reading s from m o n high (i + 1)
-  reading_space h q = record { done = r.done; count = r.count; stored = r.stored; whole = image_space s _ high i _ r.whole h q }
+module _ (t m o : List ℕ) (n i : ℕ) where
+  module _ (high : Option ℕ) (r : Reading t m o n high i) (h : i < length t) where
+    pub reading_space : get_or t i 0 ≡ space → Reading t m o n high (i + 1)
+    reading_space q = record { done = r.done; count = r.count; stored = r.stored; few = omega (arith, r.few); digit = r.digit; whole = image_space t _ i _ h high r.whole q }
 
-  module _ (d : ℕ) (h : i < length s) (f : get_or s i 0 ≡ space → ⊥) (q : d ≡ digit_or (digit_of (get_or s i 0))) where
-    pub reading_bad : d ≡ 16 → ReadAs s from m o Bad
-    reading_bad g = refused s from m o (image_bad s _ high i _ r.whole h f d q g)
+    pub reading_bad : (get_or t i 0 ≡ space → ⊥) → digit_of (get_or t i 0) ≡ None → ReadAs t m o None
+    reading_bad f q = refused t m o (image_bad t _ i _ h f high r.whole q)
 
-    module _ (k : d ≡ 16 → ⊥) where
-      pub reading_waits : high ≡ 16 → Reading s from m o n d (i + 1)
-      reading_waits g = record { done = r.done; count = r.count; stored = r.stored; whole = image_waits s _ high i _ r.whole h f d q k g }
+  module _ (d : ℕ) (h : i < length t) (f : get_or t i 0 ≡ space → ⊥) (q : digit_of (get_or t i 0) ≡ Some d) where
+    pub reading_waits : Reading t m o n None i → Reading t m o n (Some d) (i + 1)
+    reading_waits r = record {
+      done = r.done;
+      count = r.count;
+      stored = r.stored;
+      few = omega (arith, r.few);
+      digit = λ e g. let k : d ≡ e = cc in omega (arith, digit_below _ d q);
+      whole = image_waits t _ i _ h f d q r.whole;
+    }
 
-      pub reading_byte : (high ≡ 16 → ⊥) → Reading s from m (set o n (high * 16 + d)) (n + 1) 16 (i + 1)
-      reading_byte g = record {
-        done = r.done ++ ((high * 16 + d) ∷ []);
-        count = rw (r.count, length-append);
-        stored = rw (r.count, r.stored) (simp zero-add at (sets_append r.done ((high * 16 + d) ∷ []) m 0));
-        whole = image_byte s _ high i _ r.whole h f d q k g;
-      }
+    pub reading_byte : (high : ℕ) → Reading t m o n (Some high) i → Reading t m (set o n (high * 16 + d)) (n + 1) None (i + 1)
+    reading_byte high r = record {
+      done = r.done ++ ((high * 16 + d) ∷ []);
+      count = rw (r.count, length-append);
+      stored = rw (r.count, r.stored) (simp zero-add at (sets_append r.done ((high * 16 + d) ∷ []) m 0));
+      few = omega (arith, r.few);
+      digit = λ e g. cc;
+      whole = image_byte t _ i _ h f d q high r.whole;
+    }
 
-  module _ (l : length s ≤ i) where
-    pub reading_odd : (high ≡ 16 → ⊥) → ReadAs s from m o Bad
-    reading_odd g = refused s from m o (image_odd s _ high i _ r.whole l g)
+    pub byte_fits : (high : ℕ) → Reading t m o n (Some high) i → high * 16 + d < 256
+    byte_fits high r = omega (arith, r.digit high refl, digit_below _ d q)
 
-    pub reading_even : high ≡ 16 → ReadAs s from m o (Bytes n)
-    unfolding size_or
-    reading_even g =
-        let e : image_at (drop from s) ≡ some r.done = image_even s _ high i _ r.whole l g in
-        (rw (e, r.count), λ bytes b. let q : r.done ≡ bytes = cc in rw (← q) r.stored)
+  module _ (l : length t ≤ i) where
+    pub reading_odd : (high : ℕ) → Reading t m o n (Some high) i → ReadAs t m o None
+    reading_odd high r = refused t m o (image_odd t _ i _ l high r.whole)
+
+    pub reading_even : Reading t m o n None i → ReadAs t m o (Some n)
+    reading_even r =
+        let e : image_at t ≡ Some r.done = image_even t _ i _ l r.whole in
+        record { size = rw (e, r.count); bytes = λ bytes b. let q : r.done ≡ bytes = cc in rw (← q) r.stored }

@@ -1,41 +1,34 @@
 -- The line at each return of the code, and the bytes of an image.
-use Rattle.std.specs.Prelude.{if◌then◌else◌}
-use mathlib.Core.Bool.{Bool, true, false, not, false≢true}
+use Rattle.std.specs.Prelude.{if◌then◌else◌, Option, Some, None, unwrap_or}
+use Rattle.std.specs.Option.{option_map}
+use mathlib.Core.Bool.{Bool, true, false}
 use mathlib.Core.Path.{◌≡◌, refl, sym, ap, ◌∙◌}
 use mathlib.Core.List.{List, []}
-use mathlib.Core.Option.{Option, none, some}
 use Prim.Native.Nat.{ℕ, ◌+◌, ◌<◌, ◌≤◌}
 use native.Mathlib.Nat.{zero-add}
 use native.Mathlib.Omega.{arith}
 use lib.Dec.{leb}
 use lib.ListN.{length, take, drop}
 use lib.Seq.{sets}
-use borrow.Author.Tests.{leb-true, le-leb, lt-leb, not-true, not-false}
+use borrow.Author.Tests.{leb-true, le-leb, lt-leb}
 use Rattle.rules.specs.Text.{Line, bad, image, event, word_image, same, fields, image_or, event_or, line_of, pieces, parse}
+use Rattle.rules.specs.declared.Event.{Event}
 use Rattle.text.specs.declared.line.Line.{Line as Told}
-use Rattle.text.specs.declared.digits.Size.{Size}
-use Rattle.text.specs.Pieces.{first_length, behind, image_at, size_or}
-use Rattle.text.specs.Lines.{told, is_image, image_of}
+use Rattle.text.specs.Pieces.{first_length, behind, image_at}
+use Rattle.text.specs.Lines.{told, image_of}
 use Rattle.text.proofs.EventLaws.{event_or_bad}
 use Rattle.text.proofs.PieceLaws.{pieces_split, joined_behind}
 
 -- an image that is right or not
-module _ (w : Option (List ℕ)) (r : Size) where
-  pub image_no : r ≡ size_or w → r ≡ Size.Bad → Told.Bad ≡ told (image_or w)
-  unfolding size_or told
-  image_no = go w
-    where
-      go : (o : Option (List ℕ)) → r ≡ size_or o → r ≡ Size.Bad → Told.Bad ≡ told (image_or o)
-      go none e f = refl
-      go (some bytes) e f = cc
+pub image_no : (w : Option (List ℕ)) → None ≡ option_map length w → Told.Bad ≡ told (image_or w)
+unfolding told
+image_no None e = refl
+image_no (Some bytes) e = cc
 
-  pub image_yes : (n : ℕ) → r ≡ size_or w → r ≡ Size.Bytes n → Told.Image ≡ told (image_or w)
-  unfolding size_or told
-  image_yes n = go w
-    where
-      go : (o : Option (List ℕ)) → r ≡ size_or o → r ≡ Size.Bytes n → Told.Image ≡ told (image_or o)
-      go none e f = cc
-      go (some bytes) e f = refl
+pub image_yes : (n : ℕ) (w : Option (List ℕ)) → Some n ≡ option_map length w → Told.Image ≡ told (image_or w)
+unfolding told
+image_yes n None e = cc
+image_yes n (Some bytes) e = refl
 
 -- a line, cut at the end of its first word
 module _ (s : List ℕ) where
@@ -58,52 +51,52 @@ module _ (s : List ℕ) where
       parse_event q f = f ∙ rw (cut, ← p, q)
 
 -- an event is no image
-event_no_image : (word : List ℕ) (o : Option (List ℕ)) → is_image (told (event_or word o)) ≡ false
+event_no_image : (word : List ℕ) (o : Option (List ℕ)) → Told.Image ≡ told (event_or word o) → ⊥
 unfolding told
-event_no_image word none = refl
-event_no_image word (some ns) = event_or_bad (λ l. is_image (told l) ≡ false) refl (λ e. refl) word ns
+event_no_image word None = λ e. cc
+event_no_image word (Some ns) = event_or_bad (λ l. Told.Image ≡ told l → ⊥) (λ e. cc) (λ x e. cc) word ns
 
--- the bytes of a line: t is whether the code took it for an image's
-module _ (s : List ℕ) (line : Told) (p : line ≡ told (parse s)) (t : Bool) (q : t ≡ is_image line) where
-  pub bytes_none : (m : List ℕ) → not t ≡ true → (0 ≡ length (image_of (parse s))) × (m ≡ sets m 0 (image_of (parse s)))
+-- the bytes of a line that is no image's
+module _ (s m : List ℕ) where
+  pub bytes_bad : Told.Bad ≡ told (parse s) → (0 ≡ length (image_of (parse s))) × (m ≡ sets m 0 (image_of (parse s)))
   unfolding told image_of
-  bytes_none m h = go (parse s) (sym (not-true t h) ∙ q ∙ ap is_image p)
+  bytes_bad e = go (parse s) e
     where
-      go : (l : Line) → false ≡ is_image (told l) → (0 ≡ length (image_of l)) × (m ≡ sets m 0 (image_of l))
+      go : (l : Line) → Told.Bad ≡ told l → (0 ≡ length (image_of l)) × (m ≡ sets m 0 (image_of l))
       go bad e = (refl, refl)
-      go (image bytes) e = absurd (false≢true e)
+      go (image bytes) e = cc
+      go (event x) e = cc
+
+  pub bytes_event : (y : Event) → Told.Event y ≡ told (parse s) → (0 ≡ length (image_of (parse s))) × (m ≡ sets m 0 (image_of (parse s)))
+  unfolding told image_of
+  bytes_event y e = go (parse s) e
+    where
+      go : (l : Line) → Told.Event y ≡ told l → (0 ≡ length (image_of l)) × (m ≡ sets m 0 (image_of l))
+      go bad e = cc
+      go (image bytes) e = cc
       go (event x) e = (refl, refl)
 
-  module _ (h : not t ≡ false) where
-    taken : is_image (told (parse s)) ≡ true
-    taken = sym (q ∙ ap is_image p) ∙ not-false t h
+-- the bytes of an image's line
+module _ (s : List ℕ) (p : Told.Image ≡ told (parse s)) where
+  pub bytes_fit : length s ≤ 2048
+  unfolding parse told
+  bytes_fit = go (leb (length s) 2048) refl p
+    where
+      go : (u : Bool) → leb (length s) 2048 ≡ u → Told.Image ≡ told (if u then line_of (pieces [] s) else bad) → length s ≤ 2048
+      go true e f = leb-true _ _ e
+      go false e f = cc
 
-    pub bytes_fit : length s ≤ 2048
-    unfolding parse told
-    bytes_fit = go (leb (length s) 2048) refl taken
+  module _ (end : ℕ) (e : end ≡ 0 + first_length (drop 0 s)) where
+    there : image_at (drop end s) ≡ Some (image_of (parse s))
+    unfolding told image_of
+    there = rw (cut s bytes_fit end e) (go (same (take end s) word_image) (image_at (drop end s)) (p ∙ ap told (cut s bytes_fit end e)))
       where
-        go : (u : Bool) → leb (length s) 2048 ≡ u → is_image (told (if u then line_of (pieces [] s) else bad)) ≡ true → length s ≤ 2048
-        go true e f = leb-true _ _ e
-        go false e f = absurd (false≢true f)
+        go : (u : Bool) (w : Option (List ℕ)) → Told.Image ≡ told (if u then image_or w else event_or (take end s) (fields (behind (drop end s))))
+            → w ≡ Some (image_of (if u then image_or w else event_or (take end s) (fields (behind (drop end s)))))
+        go true None f = cc
+        go true (Some bytes) f = refl
+        go false w f = absurd (event_no_image (take end s) (fields (behind (drop end s))) f)
 
-    module _ (end : ℕ) (e : end ≡ 0 + first_length (drop 0 s)) where
-      there : image_at (drop end s) ≡ some (image_of (parse s))
-      unfolding told image_of
-      there = rw (cut s bytes_fit end e) (go (same (take end s) word_image) (image_at (drop end s)) (ap (λ (l : Line). is_image (told l)) (sym (cut s bytes_fit end e)) ∙ taken))
-        where
-          go : (u : Bool) (w : Option (List ℕ)) → is_image (told (if u then image_or w else event_or (take end s) (fields (behind (drop end s))))) ≡ true
-              → w ≡ some (image_of (if u then image_or w else event_or (take end s) (fields (behind (drop end s)))))
-          go true none f = absurd (false≢true f)
-          go true (some bytes) f = refl
-          go false w f = absurd (false≢true (sym (event_no_image (take end s) (fields (behind (drop end s)))) ∙ f))
-
-      module _ (r : Size) (k : r ≡ size_or (image_at (drop end s))) (m o : List ℕ) (g : (bytes : List ℕ) → image_at (drop end s) ≡ some bytes → o ≡ sets m 0 bytes) where
-        sized : r ≡ Size.Bytes (length (image_of (parse s)))
-        unfolding size_or
-        sized = k ∙ rw there
-
-        pub bytes_bad : r ≡ Size.Bad → (0 ≡ length (image_of (parse s))) × (o ≡ sets m 0 (image_of (parse s)))
-        bytes_bad b = absurd (let y : r ≡ Size.Bytes (length (image_of (parse s))) = sized in let z : ◌≡◌ {A = ℕ} 0 1 = cc in omega arith)
-
-        pub bytes_read : (n : ℕ) → r ≡ Size.Bytes n → (n ≡ length (image_of (parse s))) × (o ≡ sets m 0 (image_of (parse s)))
-        bytes_read n b = (cc sized, g _ there)
+    pub bytes_read : (r : Option ℕ) (m o : List ℕ) → r ≡ option_map length (image_at (drop end s)) → ((bytes : List ℕ) → image_at (drop end s) ≡ Some bytes → o ≡ sets m 0 bytes)
+        → (unwrap_or r 0 ≡ length (image_of (parse s))) × (o ≡ sets m 0 (image_of (parse s)))
+    bytes_read r m o k g = (rw (k, there), g _ there)

@@ -1,4 +1,5 @@
 -- Laws of printing: the numbers of an answer, a number's digits, and numbers in a row.
+use Rattle.std.proofs.Common.{Ok, Err}
 use mathlib.Core.Path.{◌≡◌, refl, ap}
 use mathlib.Core.List.{List, [], ◌∷◌, ◌++◌, append_assoc}
 use mathlib.Core.Logic.{⊎_elim}
@@ -14,7 +15,7 @@ use Rattle.rules.specs.declared.Answer.TheVariants.{Done, One, Two, Refused}
 use Rattle.rules.specs.declared.Refusal.{Refusal}
 use Rattle.rules.specs.declared.ImageRefusal.{ImageRefusal}
 use Rattle.rules.specs.declared.ImageRefusal.TheVariants.{ImageShort, HeaderOrCount, ExtentNumbers, ExtentOrder, PagesShared, SourceTwice, FillOrBehind}
-use Rattle.rules.specs.declared.Loading.{Loading}
+use Rattle.rules.specs.Types.{Loading}
 use Rattle.rules.specs.Statuses.{status_of, numbers, image_numbers, loading_numbers}
 use Rattle.rules.specs.Text.{space, line_feed, digit_byte, hex_of, hex, spaced}
 use Rattle.rules.proofs.Tests.{lt_or_ge}
@@ -41,11 +42,11 @@ module _ (a : Answer) where
 
 -- the three numbers
 module _ (a : Loading) where
-  pub loading_accepted : a ≡ Loading.Accepted → 0 ∷ 0 ∷ 0 ∷ [] ≡ loading_numbers a
+  pub loading_accepted : a ≡ (Ok tt) → 0 ∷ 0 ∷ 0 ∷ [] ≡ loading_numbers a
   unfolding loading_numbers
   loading_accepted e = rw e
 
-  pub loading_refused : (why : ImageRefusal) (ns : List ℕ) → a ≡ Loading.Refused why → ns ≡ image_numbers why → ns ≡ loading_numbers a
+  pub loading_refused : (why : ImageRefusal) (ns : List ℕ) → a ≡ Err why → ns ≡ image_numbers why → ns ≡ loading_numbers a
   unfolding loading_numbers
   loading_refused why ns e f = rw e f
 
@@ -208,8 +209,8 @@ image_three (FillOrBehind guests) = refl
 
 loading_three : (a : Loading) → take 3 (three (loading_numbers a)) ≡ loading_numbers a
 unfolding loading_numbers
-loading_three Loading.Accepted = refl
-loading_three (Loading.Refused why) = image_three why
+loading_three (Ok u) = refl
+loading_three (Err why) = image_three why
 
 loading_line : (a : Loading) → numbers_text 3 (three (loading_numbers a)) ≡ loading_text a
 unfolding numbers_text loading_text

@@ -1,9 +1,8 @@
 -- From the fields that the code read to the event that they make.
-use Rattle.std.specs.Prelude.{if◌then◌else◌}
-use mathlib.Core.Bool.{Bool, true, false, not, and-false, true≢false, false≢true}
+use Rattle.std.specs.Prelude.{if◌then◌else◌, Option, Some, None}
+use mathlib.Core.Bool.{Bool, true, false, and-false}
 use mathlib.Core.Path.{◌≡◌, refl, sym, ap, ◌∙◌}
 use mathlib.Core.List.{List, ◌++◌}
-use mathlib.Core.Option.{Option, none, some}
 use Prim.Native.Nat.{ℕ, zero, suc, ◌+◌, ◌-◌, ◌<◌, ◌≤◌}
 use native.Mathlib.Omega.{arith}
 use lib.Dec.{leb}
@@ -13,7 +12,7 @@ use borrow.Author.Tests.{leb-false, lt-leb, ne_eqb}
 use Rattle.rules.specs.Text.{bad, event_or, event_line}
 use Rattle.text.specs.declared.line.Line.{Line as Told}
 use Rattle.text.specs.declared.fields.Fields.{Fields}
-use Rattle.text.specs.Gathered.{no_fields, fields_of, fields_or, ZeroFrom}
+use Rattle.text.specs.Gathered.{fields_of, fields_or, ZeroFrom}
 use Rattle.text.specs.Lines.{told}
 
 -- an event that has more fields than any
@@ -32,7 +31,7 @@ too_many word ns h =
 -- fields that are right
 pub record Right (o : Option (List ℕ)) (f : Fields) : Type 0 where
   pub ns : List ℕ
-  pub read : o ≡ some ns
+  pub read : o ≡ Some ns
   pub held : f ≡ fields_of ns
 
 zero_at : (n k : ℕ) → ◌≡◌ {A = ℕ} (get_or (replicate n 0) k 0) 0
@@ -56,36 +55,32 @@ module _ (ns : List ℕ) where
     pub right_first : take f.numbers f.number ≡ ns
     right_first = rw (e, take-append_seam)
 
-module _ (o : Option (List ℕ)) (f : Fields) (e : f ≡ fields_or o) where
-  pub right_told : not f.right ≡ false → Right o f
-  unfolding fields_or no_fields
-  right_told h = go o e
+module _ (o : Option (List ℕ)) (f : Fields) (e : Some f ≡ fields_or o) where
+  pub right_told : Right o f
+  unfolding fields_or
+  right_told = go o e
     where
-      pick : (ns : List ℕ) (t : Bool) → f ≡ (if t then fields_of ns else no_fields) → Right (some ns) f
-      pick ns true q = record { ns = ns; read = refl; held = q }
-      pick ns false q = absurd (true≢false (sym (ap (λ (x : Fields). not x.right) q) ∙ h))
+      pick : (ns : List ℕ) (t : Bool) → Some f ≡ (if t then Some (fields_of ns) else None) → Right (Some ns) f
+      pick ns true q = record { ns = ns; read = refl; held = cc }
+      pick ns false q = cc
 
-      go : (p : Option (List ℕ)) → f ≡ fields_or p → Right p f
-      go none q = absurd (true≢false (sym (ap (λ (x : Fields). not x.right) q) ∙ h))
-      go (some ns) q = pick ns (leb (length ns) 9) q
+      go : (p : Option (List ℕ)) → Some f ≡ fields_or p → Right p f
+      go None q = cc
+      go (Some ns) q = pick ns (leb (length ns) 9) q
 
-  pub event_bad : (word : List ℕ) → not f.right ≡ true → Told.Bad ≡ told (event_or word o)
-  unfolding fields_or told
-  event_bad word h = go o e
-    where
-      pick : (ns : List ℕ) (t : Bool) → leb (length ns) 9 ≡ t → f ≡ (if t then fields_of ns else no_fields) → Told.Bad ≡ told (event_line word ns)
-      pick ns true l q = absurd (false≢true (sym (ap (λ (x : Fields). not x.right) q) ∙ h))
-      pick ns false l q = rw (← too_many word ns (leb-false _ _ l))
+  pub event_held : (f.numbers ≤ length f.number) × ZeroFrom f.numbers f.number
+  event_held = right_held right_told.ns f right_told.held
 
-      go : (p : Option (List ℕ)) → f ≡ fields_or p → Told.Bad ≡ told (event_or word p)
-      go none q = refl
-      go (some ns) q = pick ns (leb (length ns) 9) refl q
+  pub event_good : (word : List ℕ) (r : Told) → r ≡ told (event_line word (take f.numbers f.number)) → r ≡ told (event_or word o)
+  event_good word r q =
+      q ∙ ap (λ (l : List ℕ). told (event_line word l)) (right_first right_told.ns f right_told.held) ∙ sym (ap (λ (p : Option (List ℕ)). told (event_or word p)) right_told.read)
 
-  module _ (h : not f.right ≡ false) where
-    pub event_held : (f.numbers ≤ length f.number) × ZeroFrom f.numbers f.number
-    event_held = let g : Right o f = right_told h in right_held g.ns f g.held
-
-    pub event_good : (word : List ℕ) (r : Told) → r ≡ told (event_line word (take f.numbers f.number)) → r ≡ told (event_or word o)
-    event_good word r q =
-        let g : Right o f = right_told h in
-        q ∙ ap (λ (l : List ℕ). told (event_line word l)) (right_first g.ns f g.held) ∙ sym (ap (λ (p : Option (List ℕ)). told (event_or word p)) g.read)
+-- fields that are not right
+pub event_bad : (o : Option (List ℕ)) → None ≡ fields_or o → (word : List ℕ) → Told.Bad ≡ told (event_or word o)
+unfolding fields_or told
+event_bad None e word = refl
+event_bad (Some ns) e word = pick (leb (length ns) 9) refl e
+  where
+    pick : (t : Bool) → leb (length ns) 9 ≡ t → None ≡ (if t then Some (fields_of ns) else None) → Told.Bad ≡ told (event_line word ns)
+    pick true l q = cc
+    pick false l q = rw (← too_many word ns (leb-false _ _ l))

@@ -1,9 +1,8 @@
 -- How much a line can say: an image of at most 1,024 bytes.
-use Rattle.std.specs.Prelude.{if◌then◌else◌}
+use Rattle.std.specs.Prelude.{if◌then◌else◌, Option, Some, None}
 use mathlib.Core.Bool.{Bool, true, false}
 use mathlib.Core.Path.{◌≡◌, refl}
 use mathlib.Core.List.{List, [], ◌∷◌}
-use mathlib.Core.Option.{Option, none, some}
 use Prim.Native.Nat.{ℕ, zero, suc, ◌*◌, ◌≤◌}
 use native.Mathlib.Omega.{arith}
 use lib.Dec.{leb, eqb}
@@ -17,8 +16,8 @@ use Rattle.text.proofs.PieceLaws.{pieces_split, joined_behind}
 
 -- the length of a text that may be none
 abbrev count : Option (List ℕ) → ℕ
-count none = 0
-count (some bytes) = length bytes
+count None = 0
+count (Some bytes) = length bytes
 
 -- two digits make a byte
 halves : (ds : List ℕ) → 2 * count (paired ds) ≤ length ds
@@ -28,8 +27,8 @@ halves (d ∷ []) = omega arith
 halves (d ∷ (e ∷ ds)) = go (paired ds) (halves ds)
   where
     go : (o : Option (List ℕ)) → 2 * count o ≤ length ds → 2 * count (byte_of d e o) ≤ suc (suc (length ds))
-    go none h = omega arith
-    go (some bytes) h = omega arith
+    go None h = omega arith
+    go (Some bytes) h = omega arith
 
 -- a byte makes at most a digit
 digits_few : (bs : List ℕ) → count (digits bs) ≤ length bs
@@ -38,16 +37,16 @@ digits_few [] = omega arith
 digits_few (b ∷ bs) = go (digit_of b) (digits bs) (digits_few bs)
   where
     go : (d o : _) → count o ≤ length bs → count (consed d o) ≤ suc (length bs)
-    go none o h = omega arith
-    go (some d) none h = omega arith
-    go (some d) (some ds) h = omega arith
+    go None o h = omega arith
+    go (Some d) None h = omega arith
+    go (Some d) (Some ds) h = omega arith
 
 pairs_few : (bs : List ℕ) → 2 * count (paired_or (digits bs)) ≤ length bs
 pairs_few bs = go (digits bs) (digits_few bs)
   where
     go : (o : Option (List ℕ)) → count o ≤ length bs → 2 * count (paired_or o) ≤ length bs
-    go none h = omega arith
-    go (some ds) h = omega (arith, halves ds)
+    go None h = omega arith
+    go (Some ds) h = omega (arith, halves ds)
 
 unspaced_few : (bs : List ℕ) → length (unspaced bs) ≤ length bs
 unfolding unspaced
@@ -80,12 +79,12 @@ image_few s = go (leb (length s) 2048) refl
     bytes_few = omega (arith, pairs_few (unspaced rest), unspaced_few rest, drop_few (first_length s) s)
 
     of_image : (o : Option (List ℕ)) → 2 * count o ≤ 2048 → length (image_of (image_or o)) ≤ 1024
-    of_image none h = omega arith
-    of_image (some bytes) h = omega arith
+    of_image None h = omega arith
+    of_image (Some bytes) h = omega arith
 
     of_event : (word : List ℕ) (o : Option (List ℕ)) → length (image_of (event_or word o)) ≤ 1024
-    of_event word none = omega arith
-    of_event word (some ns) = rw (event_none word ns) (omega arith)
+    of_event word None = omega arith
+    of_event word (Some ns) = rw (event_none word ns) (omega arith)
 
     of_line : (t : Bool) → length s ≤ 2048
         → length (image_of (if t then image_or (paired_or (digits (unspaced rest))) else event_or (take (first_length s) s) (fields (behind rest)))) ≤ 1024

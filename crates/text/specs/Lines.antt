@@ -1,5 +1,5 @@
 -- What the code tells of a line.
-use Rattle.std.specs.Prelude.{Bool, true, false, ℕ, List, []}
+use Rattle.std.specs.Prelude.{ℕ, List, []}
 use Rattle.rules.specs.Text.{Line, bad, image, event}
 use Rattle.text.specs.declared.line.Line.{Line as Told}
 
@@ -9,12 +9,7 @@ told bad = Told.Bad
 told (image bytes) = Told.Image
 told (event e) = Told.Event e
 
-abbrev pub is_image : Told → Bool
-is_image Told.Bad = false
-is_image Told.Image = true
-is_image (Told.Event e) = false
-
--- those bytes, and none of any other line
+-- the bytes of an image, and none of any other line
 unfoldable pub image_of : Line → List ℕ
 image_of bad = []
 image_of (image bytes) = bytes

@@ -1,9 +1,6 @@
 -- A line cut at its spaces: what the code answers of a part of it.
-use Rattle.std.specs.Prelude.{ℕ, suc, List, [], ◌∷◌, eqb, length, if◌then◌else◌}
-use Rattle.std.proofs.Math.Option.{Option, none, some}
+use Rattle.std.specs.Prelude.{ℕ, suc, List, [], ◌∷◌, eqb, if◌then◌else◌, Option}
 use Rattle.rules.specs.Text.{space, pieces, digits, paired_or}
-use Rattle.text.specs.declared.number.Number.{Number}
-use Rattle.text.specs.declared.digits.Size.{Size}
 
 -- the length of the first piece
 unfoldable pub first_length : List ℕ → ℕ
@@ -23,16 +20,3 @@ unspaced (b ∷ bs) = if eqb b space then unspaced bs else b ∷ unspaced bs
 -- the bytes of an image, whose text is given
 unfoldable pub image_at : List ℕ → Option (List ℕ)
 image_at text = paired_or (digits (unspaced text))
-
--- 16 stands for no digit
-abbrev pub digit_or : Option ℕ → ℕ
-digit_or none = 16
-digit_or (some d) = d
-
-unfoldable pub number_or : Option ℕ → Number
-number_or none = Number.Bad
-number_or (some n) = Number.Is n
-
-unfoldable pub size_or : Option (List ℕ) → Size
-size_or none = Size.Bad
-size_or (some bytes) = Size.Bytes (length bytes)

@@ -1,7 +1,7 @@
 -- The lines that the session program prints, each with its line feed.
 use Rattle.std.specs.Prelude.{ℕ, List, [], ◌∷◌, ◌++◌, take}
 use Rattle.rules.specs.declared.Answer.{Answer}
-use Rattle.rules.specs.declared.Loading.{Loading}
+use Rattle.rules.specs.Types.{Loading}
 use Rattle.rules.specs.Statuses.{numbers, loading_numbers}
 use Rattle.rules.specs.Text.{line_feed, word_bad, spaced}
 

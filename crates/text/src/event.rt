@@ -83,22 +83,22 @@ fn event_of(word: &[u8], n: usize, ns: [u64; FIELDS]) -> Line
     requires { (n ≤ length ns) × ZeroFrom n ns }
     ensures { result ≡ told (event_line word.now (take n ns)) }
 {
-    if same_text(word, b"call") & ((4 <= n) & (n <= 9)) {
+    if same_text(word, b"call") && 4 <= n && n <= 9 {
         return Line::Event(Event::Call(call_of(ns)));
     }
-    if same_text(word, b"head") & (n == 4) {
+    if same_text(word, b"head") && n == 4 {
         return Line::Event(Event::Head(head_of(ns)));
     }
-    if same_text(word, b"raise") & (n == 2) {
+    if same_text(word, b"raise") && n == 2 {
         return Line::Event(Event::Raise(device_of(ns)));
     }
-    if same_text(word, b"load") & (n == 2) {
+    if same_text(word, b"load") && n == 2 {
         return Line::Event(Event::Load(load_of(ns)));
     }
-    if same_text(word, b"store") & (n == 3) {
+    if same_text(word, b"store") && n == 3 {
         return Line::Event(Event::Store(store_of(ns)));
     }
-    if same_text(word, b"hit") & (n == 6) {
+    if same_text(word, b"hit") && n == 6 {
         return Line::Event(Event::Hit(hit_of(ns)));
     }
     Line::Bad
@@ -109,10 +109,8 @@ pub(crate) fn event_line(s: &[u8], end: usize) -> Line
     requires { end ≤ length s.now }
     ensures { result ≡ told (event_or (take end s.now) (fields (behind (drop end s.now)))) }
 {
-    let read = read_fields(s, end);
-    if !read.right {
-        return Line::Bad;
+    match read_fields(s, end) {
+        None => Line::Bad,
+        Some(fields) => event_of(&s[..end], fields.numbers, fields.number),
     }
-    let list = read.number;
-    event_of(&s[..end], read.numbers, list)
 }

@@ -11,7 +11,7 @@ mod print;
 
 pub use fields::{FIELDS, Fields, read_fields};
 pub use line::{Line, image_bytes, parse_line};
-pub use number::{NO_DIGIT, Number, digit_of, read_number};
+pub use number::{digit_of, read_number};
 pub use piece::{piece_end, same_text};
 pub use print::{
     digit_byte, loading_numbers, numbers_of, put_answer, put_bad, put_loading, put_numbers,

@@ -3,15 +3,15 @@ ghost use Rattle.std.specs.Prelude.{◌≡◌, ◌≤◌, length, drop};
 ghost use Rattle.std.proofs.lemmas.List.Edits.{sets};
 ghost use Rattle.rules.specs.Text.{parse, image_or};
 ghost use Rattle.text.specs.Pieces.{image_at};
-ghost use Rattle.text.specs.Lines.{told, is_image, image_of};
+ghost use Rattle.text.specs.Lines.{told, image_of};
 
-use crate::digits::{Size, read_image};
+use crate::digits::read_image;
 use crate::event::event_line;
 use crate::piece::{piece_end, same_text};
 use rules::Event;
 
 // The bytes of an image are read by image_bytes.
-#[derive(Clone, Copy)]
+#[derive(Clone, Copy, PartialEq, Eq)]
 pub enum Line {
     Bad,
     Image,
@@ -23,11 +23,10 @@ fn image_line(s: &[u8], end: usize) -> Line
     requires { (end ≤ length s.now) × (length s.now ≤ 2048) }
     ensures { result ≡ told (image_or (image_at (drop end s.now))) }
 {
-    let mut bytes = [0u8; 1024];
-    let size = read_image(s, end, &mut bytes);
-    match size {
-        Size::Bad => Line::Bad,
-        Size::Bytes(_) => Line::Image,
+    let mut bytes = [0; 1024];
+    match read_image(s, end, &mut bytes) {
+        None => Line::Bad,
+        Some(_) => Line::Image,
     }
 }
 
@@ -45,28 +44,13 @@ pub fn parse_line(s: &[u8]) -> Line
     event_line(s, end)
 }
 
-fn is_image(line: Line) -> bool
-    ensures { result ≡ is_image line }
-{
-    match line {
-        Line::Bad => false,
-        Line::Image => true,
-        Line::Event(_) => false,
-    }
-}
-
 // Writes the bytes of an image line to the front of out, and gives their number: 0, with nothing written, for any other line.
 pub fn image_bytes(s: &[u8], out: &mut [u8; 1024]) -> usize
     ensures { (result ≡ length (image_of (parse s.now)))
         × (out.new ≡ sets out.old 0 (image_of (parse s.now))) }
 {
-    if !is_image(parse_line(s)) {
-        return 0;
+    match parse_line(s) {
+        Line::Image => read_image(s, piece_end(s, 0), out).unwrap_or(0),
+        Line::Bad | Line::Event(_) => 0,
     }
-    let end = piece_end(s, 0);
-    let size = read_image(s, end, out);
-    let Size::Bytes(n) = size else {
-        return 0;
-    };
-    n
 }

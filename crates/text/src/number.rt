@@ -1,52 +1,31 @@
 // A number in a line: hex digits of either case.
 ghost use Rattle.std.specs.Prelude.{◌≡◌};
 ghost use Rattle.rules.specs.Text.{digit_of, field};
-ghost use Rattle.text.specs.Pieces.{digit_or, number_or};
-
-// What stands for the value of a byte that is no digit.
-pub const NO_DIGIT: u8 = 16;
-
-// A field's number; Bad where the field is no number of 1 to 16 digits.
-#[derive(Clone, Copy)]
-pub enum Number {
-    Bad,
-    Is(u64),
-}
 
 // The value of a digit.
-pub fn digit_of(b: u8) -> u8
-    ensures { result ≡ digit_or (digit_of b) }
+#[tactic(auto, unfolding(rules::specs::Text::digit_of))]
+pub fn digit_of(b: u8) -> Option<u8>
+    ensures { result ≡ digit_of b }
 {
-    if (0x30 <= b) & (b <= 0x39) {
-        return b - 0x30;
+    match b {
+        b'0'..=b'9' => Some(b - b'0'),
+        b'a'..=b'f' => Some(b - b'a' + 10),
+        b'A'..=b'F' => Some(b - b'A' + 10),
+        _ => None,
     }
-    if (0x61 <= b) & (b <= 0x66) {
-        return b - 0x57;
-    }
-    if (0x41 <= b) & (b <= 0x46) {
-        return b - 0x37;
-    }
-    NO_DIGIT
 }
 
-pub fn read_number(text: &[u8]) -> Number
-    ensures { result ≡ number_or (field text.now) }
+// A field's number; None where the field is no number of 1 to 16 digits.
+pub fn read_number(text: &[u8]) -> Option<u64>
+    ensures { result ≡ field text.now }
 {
-    if text.len() < 1 {
-        return Number::Bad;
+    if text.is_empty() || 16 < text.len() {
+        return None;
     }
-    if 16 < text.len() {
-        return Number::Bad;
+    let mut v = 0;
+    for b in text {
+        let d = digit_of(*b)?;
+        v = v * 16 + u64::from(d);
     }
-    let mut v: u64 = 0;
-    let mut i = 0;
-    while i < text.len() {
-        let d = digit_of(text[i]);
-        if d == NO_DIGIT {
-            return Number::Bad;
-        }
-        v = v * 16 + d as u64;
-        i += 1;
-    }
-    Number::Is(v)
+    Some(v)
 }

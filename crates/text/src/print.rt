@@ -5,8 +5,9 @@ ghost use Rattle.rules.specs.Statuses.{status_of, numbers, image_numbers, loadin
 ghost use Rattle.rules.specs.Text.{digit_byte, hex};
 ghost use Rattle.text.specs.Printed.{numbers_text, answer_text, loading_text, bad_text};
 
-use rules::{Answer, ImageRefusal, Loading, Refusal, WriteRefusal};
+use rules::{Answer, ImageRefusal, Refusal, WriteRefusal};
 
+#[tactic(auto, unfolding(rules::specs::Statuses::status_of))]
 fn status_of(why: Refusal) -> u64
     ensures { result ≡ status_of why }
 {
@@ -28,6 +29,7 @@ fn status_of(why: Refusal) -> u64
 }
 
 // An answer's status and four values.
+#[tactic(auto, unfolding(rules::specs::Statuses::numbers))]
 pub fn numbers_of(answer: Answer) -> [u64; 5]
     ensures { result ≡ numbers answer }
 {
@@ -40,6 +42,7 @@ pub fn numbers_of(answer: Answer) -> [u64; 5]
 }
 
 // The status of a refused image, and the place that it tells.
+#[tactic(auto, unfolding(rules::specs::Statuses::image_numbers))]
 fn image_numbers(why: ImageRefusal) -> [u64; 3]
     ensures { result ≡ image_numbers why }
 {
@@ -55,16 +58,18 @@ fn image_numbers(why: ImageRefusal) -> [u64; 3]
 }
 
 // The status and two values that loading answers.
-pub fn loading_numbers(answer: Loading) -> [u64; 3]
+#[tactic(auto, unfolding(rules::specs::Statuses::loading_numbers))]
+pub fn loading_numbers(answer: Result<(), ImageRefusal>) -> [u64; 3]
     ensures { result ≡ loading_numbers answer }
 {
     match answer {
-        Loading::Accepted => [0, 0, 0],
-        Loading::Refused(why) => image_numbers(why),
+        Ok(()) => [0, 0, 0],
+        Err(why) => image_numbers(why),
     }
 }
 
 // The status of a refused writing.
+#[tactic(auto, unfolding(rules::specs::Statuses::write_status))]
 pub fn write_status(why: WriteRefusal) -> u64
     ensures { result ≡ write_status why }
 {
@@ -123,7 +128,7 @@ pub fn put_answer(answer: Answer, at: usize, out: &mut [u8]) -> usize
 }
 
 // The answer to an image: the first three of five numbers.
-pub fn put_loading(answer: Loading, at: usize, out: &mut [u8]) -> usize
+pub fn put_loading(answer: Result<(), ImageRefusal>, at: usize, out: &mut [u8]) -> usize
     requires { at + 96 ≤ length out.old }
     ensures { (result ≡ at + length (loading_text answer)) × (out.new ≡ sets out.old at (loading_text answer)) }
 {

@@ -1,22 +1,17 @@
 -- `line::image_bytes` meets its contract: no image, or the image that `parse_line` found.
-use mathlib.Core.Bool.{not}
-use mathlib.Core.Path.{ap}
-use native.Mathlib.Omega.{arith}
+use Rattle.std.proofs.Common.{◌∙◌, sym, ⊎_elim, arith}
 use Rattle.text.proofs.PieceLaws.{end_within}
-use Rattle.text.proofs.LineLaws.{bytes_none, bytes_fit, bytes_bad, bytes_read}
+use Rattle.text.proofs.LineLaws.{bytes_bad, bytes_event, bytes_fit, bytes_read}
 use Rattle.text.proofs.line.image_bytes.Goals as goal
 
-pub returns-then-not-is_image : goal.returns-then-not-is_image
-returns-then-not-is_image c = bytes_none _ _ c.parse_line.ensures _ c.is_image.ensures _ (ap not c.if-not-is_image.true)
+pub read_image-requires : goal.read_image-requires
+read_image-requires c = (end_within _ _ _ (omega arith) c.piece_end.ensures, bytes_fit _ c.in-Image.ensures)
 
-pub read_image-size-requires : goal.read_image-size-requires
-read_image-size-requires c =
-    (end_within _ _ _ (omega arith) c.piece_end-end.ensures, bytes_fit _ _ c.parse_line.ensures _ c.is_image.ensures (ap not c.if-not-is_image.false))
+pub returns-in-Image : goal.returns-in-Image
+returns-in-Image c =
+    let w = bytes_read _ c.in-Image.ensures _ c.piece_end.ensures _ _ _ c.read_image.ensures.size c.read_image.ensures.bytes in
+    (c.unwrap_or.ensures ∙ w.0, w.1)
 
-pub returns-in_default : goal.returns-in_default
-returns-in_default c =
-    bytes_bad _ _ c.parse_line.ensures _ c.is_image.ensures (ap not c.if-not-is_image.false) _ c.piece_end-end.ensures _ c.read_image-size.ensures.size _ _ c.read_image-size.ensures.bytes c.in_default.is
-
-pub returns : goal.returns
-returns c =
-    bytes_read _ _ c.parse_line.ensures _ c.is_image.ensures (ap not c.if-not-is_image.false) _ c.piece_end-end.ensures _ c.read_image-size.ensures.size _ _ c.read_image-size.ensures.bytes _ c.in-Bytes.is
+pub returns-in-Bad : goal.returns-in-Bad
+returns-in-Bad c =
+    ⊎_elim (λ e. bytes_bad _ _ (sym e ∙ c.parse_line.ensures)) (λ e. bytes_event _ _ e.0 (sym e.1 ∙ c.parse_line.ensures)) c.in-Bad.is

@@ -2,8 +2,8 @@
 use Rattle.text.proofs.LineLaws.{image_no, image_yes}
 use Rattle.text.proofs.line.image_line.Goals as goal
 
-pub returns-in-Bad : goal.returns-in-Bad
-returns-in-Bad c = search image_no
+pub returns-in-None : goal.returns-in-None
+returns-in-None c = image_no _ c.in-None.ensures.size
 
-pub returns-in-Bytes : goal.returns-in-Bytes
-returns-in-Bytes c = search image_yes
+pub returns-in-Some : goal.returns-in-Some
+returns-in-Some c = image_yes _ _ c.in-Some.ensures.size

@@ -1,33 +1,31 @@
--- `number::read_number` meets its contract. The invariant: v with the digits from i on makes the number.
-use Rattle.text.proofs.NumberLaws.{number_none, number_long, number_bad, number_next, number_end, number_room, number_grows}
-use native.Mathlib.Omega.{arith}
+-- `number::read_number` meets its contract. The invariant: v is the number of the digits so far, and makes with those behind them the text's.
+use Rattle.std.proofs.Common.{◌≡◌, ◌<◌, ◌≤◌, ◌∙◌, Some, length, sym, arith}
+use Rattle.std.proofs.lemmas.Bool.Decides.{nat_tests}
+use mathlib.Core.Logic.{⊎_elim}
+use Rattle.rules.specs.Text.{digit_of}
+use Rattle.text.proofs.NumberLaws.{number_none, number_long, number_next, number_bad, number_end, number_room, number_grows}
 use Rattle.text.proofs.number.read_number.Goals as goal
 
-pub returns-then-text-lt1 : goal.returns-then-text-lt1
-returns-then-text-lt1 c = number_none _ (omega arith)
-
-pub returns-then-text-gt16 : goal.returns-then-text-gt16
-returns-then-text-gt16 c = number_long _ (omega arith) (omega arith)
-
-pub returns-then-d-eq-NO_DIGIT : goal.returns-then-d-eq-NO_DIGIT
-returns-then-d-eq-NO_DIGIT c =
-    let l = c.loop-i in
-    number_bad _ _ l.i l.invariant.2 (omega arith) (omega arith) (omega arith) _ c.digit_of-d.ensures c.if-d-eq-NO_DIGIT.true
-
 pub overflow_mul-v : goal.overflow_mul-v
-overflow_mul-v c =
-    let l = c.loop-i in
-    omega (arith, number_room _ l.i _ _ l.invariant.1 c.digit_of-d.ensures c.if-d-eq-NO_DIGIT.false (omega arith))
+overflow_mul-v c = omega (arith, number_room _ _ _ _ c.loop-b.invariant.0 (sym c.in_ok-d.ensures) (omega arith))
 
 pub overflow_add-v : goal.overflow_add-v
-overflow_add-v c =
-    let l = c.loop-i in
-    omega (arith, number_room _ l.i _ _ l.invariant.1 c.digit_of-d.ensures c.if-d-eq-NO_DIGIT.false (omega arith))
+overflow_add-v c = omega (arith, number_room _ _ _ _ c.loop-b.invariant.0 (sym c.in_ok-d.ensures) (omega arith))
 
-pub loop-i-preserved : goal.loop-i-preserved
-loop-i-preserved c = (omega arith, number_grows _ _ _ _ c.loop-i.invariant.1 c.digit_of-d.ensures c.if-d-eq-NO_DIGIT.false, search number_next)
+pub loop-b-preserved : goal.loop-b-preserved
+loop-b-preserved c =
+    let q : digit_of _ ≡ Some c.from.result = sym c.in_ok-d.ensures ∙ cc in
+    (number_grows _ _ _ _ c.loop-b.invariant.0 q, number_next _ _ _ c.loop-b.invariant.1 c.loop-b-test.true _ q)
+
+pub returns-in_err-d : goal.returns-in_err-d
+returns-in_err-d c =
+    let n : 1 ≤ length c.args.text.now = grind (arith, nat_tests) in
+    c.from_residual.ensures ∙ number_bad _ _ _ c.loop-b.invariant.1 n (omega arith) c.loop-b-test.true (sym c.in_err-d.ensures)
 
 pub returns : goal.returns
 returns c =
-    let l = c.loop-i in
-    number_end _ _ l.i l.invariant.2 (omega arith) (omega arith) (omega arith)
+    let n : 1 ≤ length c.args.text.now = grind (arith, nat_tests) in
+    number_end _ _ _ c.loop-b.invariant.1 n (omega arith) c.loop-b-test.false
+
+pub returns-then-is_empty : goal.returns-then-is_empty
+returns-then-is_empty c = ⊎_elim (λ l. number_none _ (grind (arith, nat_tests))) (λ g. number_long _ g.1) c.then-is_empty.either

@@ -1,13 +1,9 @@
--- `piece::piece_end` meets its contract. The invariant: what is left of the piece from i on ends where the piece does.
-use Rattle.text.proofs.PieceLaws.{end_found, end_next, end_last}
-use native.Mathlib.Omega.{arith}
+-- `piece::piece_end` meets its contract: the place of the first space is the length of the first piece.
+use Rattle.text.proofs.PieceLaws.{end_at, end_past}
 use Rattle.text.proofs.piece.piece_end.Goals as goal
 
-pub returns-then-s-i-eq32 : goal.returns-then-s-i-eq32
-returns-then-s-i-eq32 c = search end_found
+pub returns-in-Some : goal.returns-in-Some
+returns-in-Some c = end_at _ _ _ c.in-Some.ensures
 
-pub loop-i-preserved : goal.loop-i-preserved
-loop-i-preserved c = (omega arith, search end_next)
-
-pub returns : goal.returns
-returns c = search end_last
+pub returns-in-None : goal.returns-in-None
+returns-in-None c = end_past _ _ c.in-None.ensures c.requires
