@@ -1,12 +1,12 @@
 -- The head write, as a rule of one ring.
-use Rattle.std.specs.Prelude.{◌&&◌, ℕ, ◌%◌, ◌<◌, leb, ltb, eqb}
+use Rattle.std.specs.Prelude.{◌&&◌, ℕ, ◌%◌, ◌<◌, leb, ltb, eqb, Result, Ok, Err}
 use Rattle.rules.specs.declared.Ring.{Ring}
 use Rattle.rules.specs.declared.QueueRecord.{QueueRecord}
+use Rattle.rules.specs.declared.Refusal.{Refusal}
 use Rattle.rules.specs.declared.Refusal.TheVariants.{EINVAL, EBADALIGN}
 use Rattle.rules.specs.Kept.{with_head}
 use Rattle.rules.specs.Queues.{forward}
 use Rattle.rules.specs.Rulings.{Ruling, refused, granted, ◌or_refuse◌then◌}
-use Rattle.queues.specs.declared.Moved.{Moved}
 
 -- a ring's head and tail lie in it
 pub record PlacesIn (ring : Ring) : Type 0 where
@@ -26,6 +26,6 @@ new_head ring value =
     granted (with_head ring value)
 
 -- the ruling as the code gives it
-unfoldable pub moved_of : Ruling Ring → Moved
-moved_of (refused r) = Moved.Refused r
-moved_of (granted ring) = Moved.To ring
+unfoldable pub moved_of : Ruling Ring → Result Ring Refusal
+moved_of (refused r) = Err r
+moved_of (granted ring) = Ok ring

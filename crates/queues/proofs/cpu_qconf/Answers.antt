@@ -1,25 +1,14 @@
--- `queues::cpu_qconf` meets its contract: each return is the rule's case, by the tests on the way.
-use native.Mathlib.Omega.{arith}
-use mathlib.Core.Path.{sym, ◌∙◌}
-use Rattle.records.proofs.Told.{entries_most}
-use Rattle.plants.proofs.OutcomeLaws.{tells_refusal, queue_changes}
-use Rattle.queues.proofs.QueueLaws.{no_queue, is_queue_lem, queue_index, queue_place, qconf_no_queue, qconf_unset, qconf_refused, qconf_set}
+-- `queues::cpu_qconf` meets its contract: a ring that the rule refuses is refused by its status.
+use Rattle.std.proofs.Common.{sym, ◌∙◌, arith}
+use Rattle.std.proofs.lemmas.Grind.{common_steps}
+use Rattle.rules.specs.Queues.{cpu_qconf}
+use Rattle.records.proofs.Told.{told_refused}
+use Rattle.plants.proofs.OutcomeLaws.{tells_refusal}
+use Rattle.queues.specs.Places.{place_of}
 use Rattle.queues.proofs.cpu_qconf.Goals as goal
 
-pub returns-in_default : goal.returns-in_default
-returns-in_default c = search (tells_refusal, qconf_no_queue, no_queue)
-
-pub returns-then-n-eq0 : goal.returns-then-n-eq0
-returns-then-n-eq0 c = search (queue_changes, qconf_unset, is_queue_lem, queue_index, queue_place)
-
-pub overflow_mul-ring : goal.overflow_mul-ring
-overflow_mul-ring c = omega (arith, entries_most _ _ _ (sym c.judge_ring-verdict.ensures ∙ c.in-Right.is))
-
-pub overflow_cast-ring : goal.overflow_cast-ring
-overflow_cast-ring c = omega (arith, entries_most _ _ _ (sym c.judge_ring-verdict.ensures ∙ c.in-Right.is))
-
-pub returns-in-Refused : goal.returns-in-Refused
-returns-in-Refused c = search (tells_refusal, qconf_refused, is_queue_lem)
-
-pub returns-in-Right : goal.returns-in-Right
-returns-in-Right c = search (queue_changes, qconf_set, is_queue_lem, queue_index, queue_place)
+pub returns-in-Err : goal.returns-in-Err
+unfolding cpu_qconf place_of
+returns-in-Err c =
+    let e = told_refused _ _ (sym c.judge_ring.ensures ∙ c.in-Err.is) in
+    tells_refusal _ (cpu_qconf _ c.args.plant c.args.cpu c.args.queue c.args.base c.args.n) _ _ (grind (arith, common_steps, e, c.in-Some.is, c.place_of.ensures)) c.told-in-Err.ensures

@@ -1,2 +1,0 @@
-pub mod QueueLaws
-pub mod RingLaws
