@@ -13,6 +13,7 @@ use plants::{Change, Done, done_by, put_entry, told};
 use rules::{Answer, Cpu, Extents, Plant, Source};
 
 // Word 0 of a source's entry: its cookie, or under 1.0 its sysino.
+#[tactic(auto, unfolding(crate::specs::Raised::word_of))]
 fn device_word(version: u8, i: usize, source: Source) -> u64
     ensures { result ≡ word_of version i source }
 {
@@ -23,22 +24,22 @@ fn device_word(version: u8, i: usize, source: Source) -> u64
 }
 
 // An entry of one word and seven zero words.
+#[tactic(auto, unfolding(rules::specs::Real::word_bytes))]
 fn entry_of(word: u64) -> [u8; 64]
     ensures { result ≡ word_bytes word ++ replicate 56 0 }
 {
     let mut entry = [0u8; 64];
-    let bytes = memory::word_bytes(word);
-    memory::write(&mut entry, 0, &bytes);
+    entry[..8].copy_from_slice(&word.to_be_bytes());
     entry
 }
 
 // The state becomes what it is answered to be.
+#[tactic(auto, unfolding(crate::specs::Raised::becoming))]
 fn becomes(i: usize, source: Source, state: u8) -> Done
     ensures { result ≡ becoming i source state }
 {
-    let mut s = source;
-    s.state = state;
-    done_by(Answer::One(state as u64), Change::Source(i, s))
+    let s = Source { state, ..source };
+    done_by(Answer::One(u64::from(state)), Change::Source(i, s))
 }
 
 // The end of a raise of a source that is enabled and not delivered: an entry at the tail of the target's 0x3d ring, if it has room.
@@ -58,16 +59,11 @@ fn deliver(
     ensures { Follows extents plant (raise_at plant i) mem.old result mem.new }
 {
     let entry = entry_of(device_word(plant.versions.interrupt, i, source));
-    let queue = own.queue[1];
-    let held = queue.held;
-    let put = put_entry(extents, held, mem, &entry);
-    if !put.room {
+    let Some(after) = put_entry(extents, own.queue[1].held, mem, &entry) else {
         return becomes(i, source, 1);
-    }
-    let after = put.held;
-    let cpu = source.target as usize;
-    let mut s = source;
-    s.state = 2;
+    };
+    let cpu = usize::from(source.target);
+    let s = Source { state: 2, ..source };
     done_by(Answer::One(2), Change::Delivered(i, s, cpu, after))
 }
 
