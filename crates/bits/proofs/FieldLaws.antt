@@ -1,8 +1,8 @@
 -- Laws of bits and fields: how a field grows by a bit, and what each answer is and tells.
-use Rattle.std.proofs.Common.{if◌then◌else◌, Option, Some, None}
+use Rattle.std.proofs.Common.{if◌then◌else◌, Some, None}
 use borrow.Author.Tests.{le-leb, lt-leb, leb-true, leb-false}
 use mathlib.Core.Bool.{Bool, true, false, ◌&&◌}
-use mathlib.Core.Path.{◌≡◌, refl, sym, ◌∙◌}
+use mathlib.Core.Path.{◌≡◌, refl}
 use mathlib.Core.List.{List}
 use Prim.Native.Nat.{ℕ, zero, suc, ◌+◌, ◌-◌, ◌*◌, ◌/◌, ◌%◌, ◌^◌, ◌<◌, ◌≤◌}
 use native.Mathlib.Nat.{pow-suc}
@@ -36,11 +36,6 @@ pub field_next : (s : List ℕ) (at k v b r : ℕ) → v ≡ field_at s at k →
 unfolding field_at
 field_next s at k v b r e f g = rw add-one (omega arith)
 
-pub field_end : (s : List ℕ) (at k n v : ℕ) → v ≡ field_at s at k → k ≤ n → n ≤ k → v ≡ field_at s at n
-field_end s at k n v e u w =
-    let q : k ≡ n = omega arith in
-    rw q at e
-
 -- the three answers
 pub field_wide : (s : List ℕ) (at n : ℕ) → 28 < n → None ≡ field_of s at n
 unfolding field_of
@@ -65,12 +60,12 @@ was_value true true v w e = (refl, cc)
 was_value true false v w e = (cc, cc)
 was_value false u v w e = (cc, cc)
 
-pub missing_tells : (s : List ℕ) (at n : ℕ) (f : Option ℕ) → n ≤ 28 → f ≡ field_of s at n → f ≡ None → 8 * length s < at + n
+pub missing_tells : (s : List ℕ) (at n : ℕ) → n ≤ 28 → None ≡ field_of s at n → 8 * length s < at + n
 unfolding field_of
-missing_tells s at n f h e m = leb-false _ _ (was_missing (leb n 28) (reaches s (at + n)) (field_at s at n) (sym m ∙ e) (le-leb n 28 h))
+missing_tells s at n h e = leb-false _ _ (was_missing (leb n 28) (reaches s (at + n)) (field_at s at n) e (le-leb n 28 h))
 
-pub value_tells : (s : List ℕ) (at n : ℕ) (f : Option ℕ) (v : ℕ) → f ≡ field_of s at n → f ≡ Some v → (at + n ≤ 8 * length s) × (v ≡ field_at s at n)
+pub value_tells : (s : List ℕ) (at n v : ℕ) → Some v ≡ field_of s at n → (at + n ≤ 8 * length s) × (v ≡ field_at s at n)
 unfolding field_of
-value_tells s at n f v e m =
-    let w = was_value (leb n 28) (reaches s (at + n)) (field_at s at n) v (sym m ∙ e) in
+value_tells s at n v e =
+    let w = was_value (leb n 28) (reaches s (at + n)) (field_at s at n) v e in
     (leb-true _ _ w.0, w.1)

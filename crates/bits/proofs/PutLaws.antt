@@ -152,9 +152,6 @@ one_above k h = shl_exact 1 k 64 (omega arith) (omega arith) ∙ one-mul (2 ^ k)
 pub masked : (x k : ℕ) → k ≤ 8 → bit_and x (1 * 2 ^ k % 2 ^ 64 - 1) ≡ x % 2 ^ k
 masked x k h = rw (one_above k h, and_mask x k)
 
-pub masked_word : (x k : ℕ) → k ≤ 8 → bit_and x (1 * 2 ^ k % 2 ^ 64 - 1) < 2 ^ 32
-masked_word x k h = rw (masked x k h) (omega (arith, mod-lt x (pow_pos k), pow_mono h))
-
 -- a byte's bits above the last m, and other bits beside them, make a byte
 kept_byte : (b m : ℕ) → b < 256 → b / 2 ^ m * 2 ^ m < 256
 kept_byte b m h = omega (arith, div-mul-le_self b (2 ^ m))

@@ -20,7 +20,7 @@ fn in_byte(at: u64) -> u32
 fn bit_of(byte: u8, k: u32) -> u32
     ensures { result ≡ byte / 2 ^ (7 - k % 8) % 2 }
 {
-    ((byte as u32) >> (7 - (k & 7))) & 1
+    (u32::from(byte) >> (7 - (k & 7))) & 1
 }
 
 // One more bit on the right.
@@ -38,18 +38,16 @@ pub fn number_at(s: &[u8], at: u64, n: u32) -> u32
 {
     let first = (at >> 3) as usize;
     let start = in_byte(at);
-    let mut v: u32 = 0;
-    let mut k: u32 = 0;
-    while k < n {
+    let mut v = 0;
+    for k in 0..n {
         let p = start + k;
-        let bit = bit_of(s[first + (p >> 3) as usize], p);
-        v = pushed(v, bit);
-        k += 1;
+        v = pushed(v, bit_of(s[first + (p >> 3) as usize], p));
     }
     v
 }
 
-// The n bits from bit `at` on; None where the bytes end before the last of them, or they are more than 28. The bytes needed are counted from the first one: the sum `at + n` could wrap.
+// The n bits from bit `at` on; None where the bytes end before the last of them, or they are more than 28.
+// The bytes needed are counted from the first one: the sum `at + n` could wrap.
 pub fn field_at(s: &[u8], at: u64, n: u32) -> Option<u32>
     ensures { result ≡ field_of s.now at n }
 {

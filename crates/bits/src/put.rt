@@ -1,17 +1,9 @@
 // The writer of a field: the last bits of a number into bytes as bits in a row, most significant bit first.
-ghost use Rattle.std.specs.Prelude.{◌≡◌, ◌+◌, ◌-◌, ◌*◌, ◌/◌, ◌%◌, ◌^◌, ◌<◌, ◌≤◌, min, length};
+ghost use Rattle.std.specs.Prelude.{◌≡◌, ◌+◌, ◌-◌, ◌*◌, ◌/◌, ◌%◌, ◌^◌, ◌<◌, ◌≤◌, length};
 ghost use Rattle.rules.specs.Bits.{bits_of};
 ghost use Rattle.bits.specs.Put.{put_bits};
 
 use crate::in_byte;
-
-// How many of the bits that are left have room in a byte from its bit `from` on.
-fn fitting(from: u32, left: u32) -> u32
-    requires { from ≤ 8 }
-    ensures { result ≡ min (8 - from) left }
-{
-    if 8 - from < left { 8 - from } else { left }
-}
 
 // The k bits of v above its last `below` bits.
 fn part_of(v: u64, below: u32, k: u32) -> u32
@@ -26,7 +18,7 @@ fn byte_with(byte: u8, from: u32, k: u32, part: u32) -> u8
     requires { (from + k ≤ 8) × (1 ≤ k) × (part < 2 ^ k) }
     ensures { result ≡ byte / 2 ^ (8 - from) * 2 ^ (8 - from) + part * 2 ^ (8 - from - k) }
 {
-    ((((byte as u32) >> (8 - from)) << (8 - from)) | (part << (8 - from - k))) as u8
+    (((u32::from(byte) >> (8 - from)) << (8 - from)) | (part << (8 - from - k))) as u8
 }
 
 // Writes the n last bits of v from bit `at` on, most significant first. The bits behind them in their last byte become 0.
@@ -38,8 +30,9 @@ pub fn put_field(out: &mut [u8], at: u64, n: u32, v: u64)
     let mut i = (at >> 3) as usize;
     let mut from = in_byte(at);
     let mut left = n;
+    // The measure is what is left to write: a `for` over the bytes would have to treat a field of no bits apart.
     while 0 < left {
-        let k = fitting(from, left);
+        let k = (8 - from).min(left);
         let part = part_of(v, left - k, k);
         out[i] = byte_with(out[i], from, k, part);
         i += 1;

@@ -38,25 +38,25 @@ goes_on m f a r e q = rw (granted_by m a e) q
 module _ (s : List ℕ) (at n lo hi : ℕ) (why : ImageRefusal) where
   pub count_short : n ≤ 28 → None ≡ field_of s at n → Err ImageShort ≡ result_of (n bits_at at of s from lo to hi else why)
   unfolding ◌bits_at◌of◌from◌to◌else◌
-  count_short h e = rw (lt-leb (at + n) (8 * length s) (missing_tells s at n None h e refl))
+  count_short h e = rw (lt-leb (at + n) (8 * length s) (missing_tells s at n h e))
 
   module _ (v : ℕ) (e : Some v ≡ field_of s at n) where
     pub count_low : v < lo → Err why ≡ result_of (n bits_at at of s from lo to hi else why)
     unfolding ◌bits_at◌of◌from◌to◌else◌
     count_low l =
-        let t = value_tells s at n (Some v) v e refl in
+        let t = value_tells s at n v e in
         rw (le-leb (at + n) (8 * length s) t.0, ← t.1, lt-leb lo v l)
 
     pub count_high : hi < v → Err why ≡ result_of (n bits_at at of s from lo to hi else why)
     unfolding ◌bits_at◌of◌from◌to◌else◌
     count_high l =
-        let t = value_tells s at n (Some v) v e refl in
+        let t = value_tells s at n v e in
         rw (le-leb (at + n) (8 * length s) t.0, ← t.1, lt-leb v hi l, and-false)
 
     pub count_is : lo ≤ v → v ≤ hi → Ok v ≡ result_of (n bits_at at of s from lo to hi else why)
     unfolding ◌bits_at◌of◌from◌to◌else◌
     count_is l h =
-        let t = value_tells s at n (Some v) v e refl in
+        let t = value_tells s at n v e in
         rw (le-leb (at + n) (8 * length s) t.0, ← t.1, le-leb lo v l, le-leb v hi h)
 
 -- a count that is granted is within its limits

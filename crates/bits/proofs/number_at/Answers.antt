@@ -1,6 +1,6 @@
 -- `bits::number_at` meets its contract: before each turn v is the field of the k bits that were read.
-use mathlib.Core.Path.{◌∙◌}
 use native.Mathlib.Omega.{arith}
+use mathlib.Core.Path.{◌∙◌}
 use Rattle.rules.specs.Bits.{field_at}
 use Rattle.bits.proofs.FieldLaws.{bit_there, field_room, field_next}
 use borrow.Author.Rules.{rules}
@@ -11,8 +11,7 @@ unfolding field_at
 loop-k-init c = search rules
 
 pub pushed-v-requires : goal.pushed-v-requires
-pushed-v-requires c = (field_room _ _ _ _ (omega arith) c.loop-k.invariant.1, omega arith)
+pushed-v-requires c = (field_room _ _ _ _ (omega arith) c.loop-k.invariant, omega arith)
 
 pub loop-k-preserved : goal.loop-k-preserved
-loop-k-preserved c = let l = c.loop-k in
-    (omega arith, field_next _ _ _ _ _ _ l.invariant.1 (c.bit_of-bit.ensures ∙ bit_there _ _ _ _ (omega arith) (omega arith)) c.pushed-v.ensures)
+loop-k-preserved c = field_next _ _ _ _ _ _ c.loop-k.invariant (c.bit_of.ensures ∙ bit_there _ _ _ _ (omega arith) (omega arith)) c.pushed-v.ensures

@@ -12,7 +12,7 @@ loop-left-preserved c =
       omega arith,
       omega arith,
       simp length-set l.invariant.3,
-      l.invariant.4 ∙ put_step _ _ _ _ _ _ _ _ (omega arith) (omega arith) (omega arith) c.fitting-k.ensures c.part_of-part.ensures c.byte_with.ensures,
+      l.invariant.4 ∙ put_step _ _ _ _ _ _ _ _ (omega arith) (omega arith) (omega arith) (omega arith) c.part_of-part.ensures c.byte_with.ensures,
     )
 
 pub returns : goal.returns
