@@ -1,5 +1,6 @@
 -- The rules of TSB lists at each return of the code, from the tests on the way.
-use mathlib.Core.Path.{◌≡◌, refl, sym, ap, ◌∙◌}
+use Rattle.std.proofs.Common.{Result, Ok, Err}
+use mathlib.Core.Path.{◌≡◌, refl, sym, ◌∙◌}
 use mathlib.Core.Bool.{Bool, true, false, ◌&&◌, not}
 use mathlib.Core.List.{List}
 use mathlib.Core.Logic.{⊎_elim}
@@ -20,26 +21,21 @@ use Rattle.rules.specs.declared.Tsbs.{Tsbs}
 use Rattle.rules.specs.Limits.{cpu_limit}
 use Rattle.rules.specs.Kept.{blank_tsbs}
 use Rattle.rules.specs.Real.{Sight, sight_of, number_of}
-use Rattle.rules.specs.Rulings.{Ruling, refused, granted, ◌grants◌, done, outcome_of}
+use Rattle.rules.specs.Rulings.{Ruling, refused, granted, ◌grants◌, done}
 use Rattle.rules.specs.Scan.{power_of_two◌from◌to◌}
 use Rattle.rules.specs.Tsb.{descriptor_at, is_page_index, ◌is_inside◌, is_lowest, judged_tsb, descriptors, new_tsbs}
 use Rattle.memory.specs.Ready.{present}
-use Rattle.records.specs.declared.Verdict.{Verdict}
-use Rattle.records.specs.declared.Verdict.TheVariants.{Right, Refused as Told}
-use Rattle.records.specs.Verdict.{verdict_of, is_right}
+use Rattle.records.specs.Verdict.{Verdict, verdict_of}
 use Rattle.records.proofs.Told.{told_refused, told_then}
-use Rattle.mmu.specs.declared.tsb.NewTsbs.{NewTsbs}
 use Rattle.plants.specs.declared.change.Change.{Change}
 use Rattle.plants.specs.declared.change.Done.{Done as Gave}
 use Rattle.plants.specs.Changes.{done_by, changed_by, plant_after}
-use Rattle.plants.specs.Done.{quietly}
 use Rattle.plants.specs.Follows.{Follows}
-use Rattle.plants.proofs.OutcomeLaws.{quiet}
-use Rattle.plants.specs.Judged.{judged}
-use Rattle.mmu.specs.Lists.{listed, settled_by, set_tsbs}
+use Rattle.plants.proofs.OutcomeLaws.{quiet, quiet_refused}
+use Rattle.mmu.specs.Lists.{listed, ruled, set_tsbs}
 
 -- a descriptor that is right is granted as it was read
-module _ (v : ℕ → ℕ → Bool) (t : Tsb) (e : verdict_of (judged_tsb v t) ≡ Right) where
+module _ (v : ℕ → ℕ → Bool) (t : Tsb) (e : verdict_of (judged_tsb v t) ≡ Ok tt) where
   sizes_told : (is_page_index t.index && (not (eqb t.mask 0) && (t.mask is_inside 0x2b))) ≡ true
   unfolding judged_tsb
   sizes_told = told_then _ _ _ e
@@ -70,11 +66,6 @@ pub descriptor_read : (byte : ℕ → ℕ) (at i a n c k b : ℕ) → i ≡ numb
 unfolding descriptor_at
 descriptor_read byte at i a n c k b e f g h p q = rw (e, f, g, h, p, q)
 
--- a verdict is right or tells a refusal
-right_told : (t : Verdict) → is_right t ≡ true → t ≡ Right
-right_told Right e = refl
-right_told (Told r) e = let z : ◌≡◌ {A = ℕ} 0 1 = cc in absurd (omega arith)
-
 -- the descriptors from the pointer on
 module _ (s : Sight) (pointer : ℕ) where
   pub listed_none : descriptors s pointer 0 ≡ granted blank_tsbs.tsb
@@ -93,78 +84,59 @@ module _ (s : Sight) (pointer : ℕ) where
       rw (refused_on r i n e k))
       (eq-or-lt_of_le h)
 
-  module _ (i : ℕ) (list : List Tsb) (e : descriptors s pointer i ≡ granted list) (t : Tsb) (p : t ≡ descriptor_at s.byte (pointer + 32 * i)) (u : Verdict) (q : u ≡ verdict_of (judged_tsb s.valid t)) (b : Bool) (o : b ≡ is_right u) where
-    pub listed_more : not b ≡ false → descriptors s pointer (i + 1) ≡ granted (set list i t)
+  module _ (i : ℕ) (list : List Tsb) (e : descriptors s pointer i ≡ granted list) (t : Tsb) (p : t ≡ descriptor_at s.byte (pointer + 32 * i)) (u : Verdict) (q : u ≡ verdict_of (judged_tsb s.valid t)) where
+    pub listed_more : u ≡ Ok tt → descriptors s pointer (i + 1) ≡ granted (set list i t)
     unfolding descriptors
-    listed_more h =
-        let w : u ≡ Right = right_told u (sym o ∙ not-false b h) in
-        rw (add-one, e, ← p, tsb_granted s.valid t (sym q ∙ w))
+    listed_more w = rw (add-one, e, ← p, tsb_granted s.valid t (sym q ∙ w))
 
-    pub listed_stops : (n : ℕ) (r : NewTsbs) → not b ≡ true → i < n → r ≡ record { verdict = u; tsbs = blank_tsbs } → listed s pointer n ≡ judged r.verdict (granted r.tsbs)
-    unfolding listed descriptors judged
-    listed_stops n r h l d = rw d (go u refl)
+    pub listed_stops : (n : ℕ) (x : Refusal) → u ≡ Err x → i < n → listed s pointer n ≡ ruled (Err x)
+    unfolding listed descriptors ruled
+    listed_stops n x w l = rw (refused_on x (suc i) n stop l)
       where
-        at : (x : Refusal) → u ≡ Told x → descriptors s pointer (suc i) ≡ refused x
-        at x z = rw (e, ← p, told_refused (judged_tsb s.valid t) x (sym q ∙ z))
+        stop : descriptors s pointer (suc i) ≡ refused x
+        stop = rw (e, ← p, told_refused (judged_tsb s.valid t) x (sym q ∙ w))
 
-        go : (y : Verdict) → u ≡ y → (descriptors s pointer n grants λ l. granted (record { tsbs = n; tsb = l })) ≡ judged y (granted blank_tsbs)
-        go Right z = let f : ◌≡◌ {A = Bool} true false = ap is_right (sym z) ∙ sym o ∙ not-true b h in let g : ◌≡◌ {A = ℕ} 0 1 = cc in absurd (omega arith)
-        go (Told x) z = rw (refused_on x (suc i) n (at x z) l)
-
-  pub listed_all : (i n : ℕ) (list : List Tsb) → descriptors s pointer i ≡ granted list → i ≤ n → n ≤ i → listed s pointer n ≡ judged Right (granted (record { tsbs = n; tsb = list }))
-  unfolding listed judged
-  listed_all i n list e h l =
-      let q : i ≡ n = omega arith in
-      rw (← q, e)
+  pub listed_all : (i n : ℕ) (list : List Tsb) → descriptors s pointer i ≡ granted list → i ≡ n → listed s pointer n ≡ ruled (Ok (record { tsbs = n; tsb = list }))
+  unfolding listed ruled
+  listed_all i n list e q = rw (← q, e)
 
 -- a new list
-module _ (s : Sight) (ntsb pointer : ℕ) (r : NewTsbs) where
-  abbrev Answered : Verdict → Type 0
-  Answered u = r ≡ record { verdict = u; tsbs = blank_tsbs }
-
-  pub tsbs_none : ntsb ≡ 0 → Answered Right → new_tsbs s ntsb pointer ≡ judged r.verdict (granted r.tsbs)
-  unfolding new_tsbs judged
-  tsbs_none z d = rw (eq-eqb ntsb 0 z, d)
+module _ (s : Sight) (ntsb pointer : ℕ) where
+  pub tsbs_none : ntsb ≡ 0 → new_tsbs s ntsb pointer ≡ ruled (Ok blank_tsbs)
+  unfolding new_tsbs ruled
+  tsbs_none z = rw (eq-eqb ntsb 0 z)
 
   module _ (z : ntsb ≡ 0 → ⊥) where
-    pub tsbs_many : 4 < ntsb → Answered (Told EINVAL) → new_tsbs s ntsb pointer ≡ judged r.verdict (granted r.tsbs)
-    unfolding new_tsbs judged
-    tsbs_many h d = rw (ne_eqb ntsb 0 z, lt-leb ntsb 4 h, d)
+    pub tsbs_many : 4 < ntsb → new_tsbs s ntsb pointer ≡ ruled (Err EINVAL)
+    unfolding new_tsbs ruled
+    tsbs_many h = rw (ne_eqb ntsb 0 z, lt-leb ntsb 4 h)
 
     module _ (h : ntsb ≤ 4) where
-      pub tsbs_align : (pointer % 8 ≡ 0 → ⊥) → Answered (Told EBADALIGN) → new_tsbs s ntsb pointer ≡ judged r.verdict (granted r.tsbs)
-      unfolding new_tsbs judged
-      tsbs_align a d = rw (ne_eqb ntsb 0 z, le-leb ntsb 4 h, ne_eqb (pointer % 8) 0 a, d)
+      pub tsbs_align : (pointer % 8 ≡ 0 → ⊥) → new_tsbs s ntsb pointer ≡ ruled (Err EBADALIGN)
+      unfolding new_tsbs ruled
+      tsbs_align a = rw (ne_eqb ntsb 0 z, le-leb ntsb 4 h, ne_eqb (pointer % 8) 0 a)
 
       module _ (a : pointer % 8 ≡ 0) (b : Bool) (p : b ≡ s.valid pointer (32 * ntsb)) where
-        pub tsbs_range : not b ≡ true → Answered (Told ENORADDR) → new_tsbs s ntsb pointer ≡ judged r.verdict (granted r.tsbs)
-        unfolding new_tsbs judged
-        tsbs_range e d = rw (ne_eqb ntsb 0 z, le-leb ntsb 4 h, eq-eqb (pointer % 8) 0 a, ← p, not-true b e, d)
+        pub tsbs_range : not b ≡ true → new_tsbs s ntsb pointer ≡ ruled (Err ENORADDR)
+        unfolding new_tsbs ruled
+        tsbs_range e = rw (ne_eqb ntsb 0 z, le-leb ntsb 4 h, eq-eqb (pointer % 8) 0 a, ← p, not-true b e)
 
-        pub tsbs_listed : not b ≡ false → listed s pointer ntsb ≡ judged r.verdict (granted r.tsbs) → new_tsbs s ntsb pointer ≡ judged r.verdict (granted r.tsbs)
+        pub tsbs_listed : not b ≡ false → (r : Result Tsbs Refusal) → listed s pointer ntsb ≡ ruled r → new_tsbs s ntsb pointer ≡ ruled r
         unfolding new_tsbs listed
-        tsbs_listed e d = rw (ne_eqb ntsb 0 z, le-leb ntsb 4 h, eq-eqb (pointer % 8) 0 a, ← p, not-false b e) d
-
--- 0x20 and 0x21: what the code gives back is what the change makes of the record, by the verdict v
-module _ (v : Verdict) (change : Change) (tsbs : Tsbs) where
-  pub settled_refused : (x : Refusal) (d : Gave) → v ≡ Told x → d ≡ done_by (Refused x) Change.Nothing → d ≡ settled_by v change tsbs
-  unfolding settled_by
-  settled_refused x d e g = rw e g
-
-  pub settled_right : v ≡ Right → record { answer = Done; change = change; tsbs = tsbs; tails = replicate cpu_limit 0 } ≡ settled_by v change tsbs
-  unfolding settled_by
-  settled_right e = rw e
-
-  settled_on : (plant : Plant) (y : Verdict) → quietly plant (settled_by y change tsbs) ≡ outcome_of plant (judged y (granted tsbs) grants λ l. done (changed_by plant l (replicate cpu_limit 0) change))
-  unfolding settled_by judged plant_after changed_by done_by
-  settled_on plant Right = refl
-  settled_on plant (Told x) = refl
+        tsbs_listed e r d = rw (ne_eqb ntsb 0 z, le-leb ntsb 4 h, eq-eqb (pointer % 8) 0 a, ← p, not-false b e) d
 
 module _ (extents : Extents) (plant : Plant) (m : List ℕ) (ntsb pointer : ℕ) (change : Change) (d : Gave) where
-  pub tsbs_set : (r : NewTsbs) → new_tsbs (sight_of (present extents) m) ntsb pointer ≡ judged r.verdict (granted r.tsbs) → d ≡ settled_by r.verdict change r.tsbs
+  -- by what the list came to
+  pub set_refused : (r : Result Tsbs Refusal) (x : Refusal) → new_tsbs (sight_of (present extents) m) ntsb pointer ≡ ruled r → r ≡ Err x → d ≡ done_by (Refused x) Change.Nothing
       → Follows extents plant (set_tsbs (sight_of (present extents) m) plant ntsb pointer change) m d m
-  unfolding set_tsbs
-  tsbs_set r f g = quiet extents plant _ m d (rw (f, g) (settled_on r.verdict change r.tsbs plant r.verdict))
+  unfolding set_tsbs ruled
+  set_refused r x f e g = quiet_refused extents plant _ m d x g (rw (f, e))
+
+  pub set_right : (r : Result Tsbs Refusal) (l : Tsbs) → new_tsbs (sight_of (present extents) m) ntsb pointer ≡ ruled r → r ≡ Ok l
+      → d ≡ record { answer = Done; change = change; tsbs = l; tails = replicate cpu_limit 0 }
+      → Follows extents plant (set_tsbs (sight_of (present extents) m) plant ntsb pointer change) m d m
+  unfolding set_tsbs ruled plant_after
+  set_right r l f e g = quiet extents plant _ m d (rw (f, e, g))
 
   -- w is what the rule makes of the record
   pub set_by : (w : Tsbs → Plant) → ((tsbs : Tsbs) → changed_by plant tsbs (replicate cpu_limit 0) change ≡ w tsbs) → Follows extents plant (set_tsbs (sight_of (present extents) m) plant ntsb pointer change) m d m

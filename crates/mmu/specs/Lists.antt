@@ -1,16 +1,14 @@
 -- The steps of 0x20 and 0x21 that are functions of their own in the code.
-use Rattle.std.specs.Prelude.{ℕ, replicate}
-use Rattle.rules.specs.declared.Answer.{Answer}
+use Rattle.std.specs.Prelude.{ℕ, replicate, Result, Ok, Err}
 use Rattle.rules.specs.declared.Plant.{Plant}
+use Rattle.rules.specs.declared.Refusal.{Refusal}
 use Rattle.rules.specs.declared.Tsbs.{Tsbs}
 use Rattle.rules.specs.Limits.{cpu_limit}
 use Rattle.rules.specs.Real.{Sight}
-use Rattle.rules.specs.Rulings.{Ruling, granted, ◌grants◌, Outcome, done}
+use Rattle.rules.specs.Rulings.{Ruling, refused, granted, ◌grants◌, Outcome, done}
 use Rattle.rules.specs.Tsb.{descriptors, new_tsbs}
-use Rattle.records.specs.declared.Verdict.{Verdict}
 use Rattle.plants.specs.declared.change.Change.{Change}
-use Rattle.plants.specs.declared.change.Done.{Done}
-use Rattle.plants.specs.Changes.{done_by, changed_by}
+use Rattle.plants.specs.Changes.{changed_by}
 
 -- the last step of a new list
 unfoldable pub listed : Sight → ℕ → ℕ → Ruling Tsbs
@@ -18,10 +16,10 @@ listed sight pointer ntsb =
     descriptors sight pointer ntsb grants λ list.
     granted (record { tsbs = ntsb; tsb = list })
 
--- what the code gives back: the change with its list, or no change, where the list is refused
-unfoldable pub settled_by : Verdict → Change → Tsbs → Done
-settled_by (Verdict.Refused r) change tsbs = done_by (Answer.Refused r) Change.Nothing
-settled_by Verdict.Right change tsbs = record { answer = Answer.Done; change = change; tsbs = tsbs; tails = replicate cpu_limit 0 }
+-- what the code gives back, as a ruling: a list, or the status that refuses it
+unfoldable pub ruled : Result Tsbs Refusal → Ruling Tsbs
+ruled (Ok tsbs) = granted tsbs
+ruled (Err r) = refused r
 
 -- both calls, by the change that sets the list
 unfoldable pub set_tsbs : Sight → Plant → ℕ → ℕ → Change → Ruling Outcome

@@ -9,7 +9,6 @@ ghost use Rattle.rules.specs.Memory.{mmustat_conf, mmustat_info};
 ghost use Rattle.plants.specs.Done.{quietly, saying};
 
 use plants::{Change, CpuChange, Done, done_by};
-use records::Verdict;
 use rules::{Answer, Cpu, Extents};
 
 // 0x102: the address is set, and the one before told. A refused address is not kept, and neither is the one before.
@@ -18,16 +17,15 @@ pub fn mmustat_conf(extents: Extents, own: Cpu, cpu: usize, address: u64) -> Don
     ensures { (plant : PlantRecord) → cpu_at plant cpu ≡ own
         → quietly plant result ≡ outcome_of plant (mmustat_conf (valid (present extents)) plant cpu address) }
 {
-    let verdict = records::judge_statistics(extents, address);
-    match verdict {
-        Verdict::Refused(r) => {
-            let cleared = Change::Cpu(cpu, CpuChange::Statistics(0));
-            done_by(Answer::Refused(r), cleared)
-        }
-        Verdict::Right => {
-            let set = Change::Cpu(cpu, CpuChange::Statistics(address));
-            done_by(Answer::One(own.statistics), set)
-        }
+    match records::judge_statistics(extents, address) {
+        Err(r) => done_by(
+            Answer::Refused(r),
+            Change::Cpu(cpu, CpuChange::Statistics(0)),
+        ),
+        Ok(()) => done_by(
+            Answer::One(own.statistics),
+            Change::Cpu(cpu, CpuChange::Statistics(address)),
+        ),
     }
 }
 

@@ -2,25 +2,15 @@
 ghost use Rattle.std.specs.Prelude.{◌≡◌, true, ◌*◌, ◌<◌, ◌≤◌, length};
 ghost use Rattle.rules.specs.declared.Plant.{Plant as PlantRecord};
 ghost use Rattle.rules.specs.Limits.{cpu_limit, extent_limit, tsb_limit};
-ghost use Rattle.rules.specs.Kept.{blank_tsbs};
 ghost use Rattle.rules.specs.Real.{valid, byte_at, sight_of};
-ghost use Rattle.rules.specs.Rulings.{granted};
 ghost use Rattle.rules.specs.Tsb.{descriptor_at, new_tsbs, mmu_tsb_ctx0, mmu_tsb_ctxnon0};
 ghost use Rattle.memory.specs.Ready.{present, Ready};
 ghost use Rattle.plants.specs.Follows.{Follows};
-ghost use Rattle.plants.specs.Judged.{judged};
-ghost use Rattle.mmu.specs.Lists.{listed, settled_by, set_tsbs};
+ghost use Rattle.mmu.specs.Lists.{listed, ruled, set_tsbs};
 
-use plants::{Change, CpuChange, Done, told};
-use records::{Verdict, blank};
-use rules::{Answer, CPUS, Extents, Real, Refusal, Tsb, Tsbs};
-
-// A new list: all its descriptors are right, or a verdict refuses it and the list is blank.
-#[derive(Clone, Copy)]
-pub struct NewTsbs {
-    pub verdict: Verdict,
-    pub tsbs: Tsbs,
-}
+use plants::{Change, CpuChange, Done, done_by, told};
+use records::blank;
+use rules::{Answer, Extents, Real, Refusal, TSBS, Tsb, Tsbs};
 
 // The descriptor at a real address, all of it but the reserved word.
 fn descriptor_at(extents: Extents, mem: &[u8], real: Real) -> Tsb
@@ -31,89 +21,51 @@ fn descriptor_at(extents: Extents, mem: &[u8], real: Real) -> Tsb
 {
     let at = real.0;
     Tsb {
-        index: memory::number2(extents, mem, real),
-        associativity: memory::number2(extents, mem, Real(at + 2)),
-        entries: memory::number4(extents, mem, Real(at + 4)),
-        context: memory::number4(extents, mem, Real(at + 8)),
-        mask: memory::number4(extents, mem, Real(at + 12)),
-        base: memory::number8(extents, mem, Real(at + 16)),
-    }
-}
-
-// A verdict beside a blank list.
-fn no_tsbs(verdict: Verdict) -> NewTsbs
-    ensures { result ≡ record { verdict = verdict; tsbs = blank_tsbs } }
-{
-    NewTsbs {
-        verdict,
-        tsbs: blank::tsbs(),
+        index: memory::number::<2>(extents, mem, real) as u16,
+        associativity: memory::number::<2>(extents, mem, Real(at + 2)) as u16,
+        entries: memory::number::<4>(extents, mem, Real(at + 4)) as u32,
+        context: memory::number::<4>(extents, mem, Real(at + 8)) as u32,
+        mask: memory::number::<4>(extents, mem, Real(at + 12)) as u32,
+        base: memory::number::<8>(extents, mem, Real(at + 16)),
     }
 }
 
 // The descriptors from pointer on: the first bad one decides.
-fn read_tsbs(extents: Extents, mem: &[u8], count: u8, pointer: u64) -> NewTsbs
+fn read_tsbs(extents: Extents, mem: &[u8], count: u8, pointer: u64) -> Result<Tsbs, Refusal>
     requires extents_le_extent_limit { (extents.extents ≤ extent_limit) × (count ≤ tsb_limit) }
     requires ready { Ready (present extents) (length mem.now) }
     requires count_value { valid (present extents) pointer (32 * count) ≡ true }
-    ensures { listed (sight_of (present extents) mem.now) pointer count ≡ judged result.verdict (granted result.tsbs) }
+    ensures { listed (sight_of (present extents) mem.now) pointer count ≡ ruled result }
 {
-    let none = blank::tsbs();
-    let mut list = none.tsb;
-    let mut i = 0;
-    while i < count {
-        let at = pointer + 32 * (i as u64);
-        let t = descriptor_at(extents, mem, Real(at));
-        let verdict = records::judge_tsb(extents, t);
-        if !records::is_right(verdict) {
-            return no_tsbs(verdict);
-        }
-        list[i as usize] = t;
-        i += 1;
+    let mut list = blank::tsbs();
+    for i in 0..count {
+        let t = descriptor_at(extents, mem, Real(pointer + 32 * u64::from(i)));
+        records::judge_tsb(extents, t)?;
+        list.tsb[i as usize] = t;
     }
-    let tsbs = Tsbs {
-        tsbs: count,
-        tsb: list,
-    };
-    NewTsbs {
-        verdict: Verdict::Right,
-        tsbs,
-    }
+    list.tsbs = count;
+    Ok(list)
 }
 
 // The list that 0x20 and 0x21 set.
-fn new_tsbs(extents: Extents, mem: &[u8], ntsb: u64, pointer: u64) -> NewTsbs
+fn new_tsbs(extents: Extents, mem: &[u8], ntsb: u64, pointer: u64) -> Result<Tsbs, Refusal>
     requires extents_le_extent_limit { extents.extents ≤ extent_limit }
     requires ready { Ready (present extents) (length mem.now) }
-    ensures { new_tsbs (sight_of (present extents) mem.now) ntsb pointer ≡ judged result.verdict (granted result.tsbs) }
+    ensures { new_tsbs (sight_of (present extents) mem.now) ntsb pointer ≡ ruled result }
 {
     if ntsb == 0 {
-        return no_tsbs(Verdict::Right);
+        return Ok(blank::tsbs());
     }
-    if 4 < ntsb {
-        return no_tsbs(Verdict::Refused(Refusal::EINVAL));
+    if ntsb > TSBS as u64 {
+        return Err(Refusal::EINVAL);
     }
     if pointer % 8 != 0 {
-        return no_tsbs(Verdict::Refused(Refusal::EBADALIGN));
+        return Err(Refusal::EBADALIGN);
     }
     if !memory::range_valid(extents, pointer, 32 * ntsb) {
-        return no_tsbs(Verdict::Refused(Refusal::ENORADDR));
+        return Err(Refusal::ENORADDR);
     }
     read_tsbs(extents, mem, ntsb as u8, pointer)
-}
-
-// What 0x20 and 0x21 come to: the change with its list, or no change, where the list is refused.
-fn settled(verdict: Verdict, change: Change, tsbs: Tsbs) -> Done
-    ensures { result ≡ settled_by verdict change tsbs }
-{
-    match verdict {
-        Verdict::Refused(r) => told(Answer::Refused(r)),
-        Verdict::Right => Done {
-            answer: Answer::Done,
-            change,
-            tsbs,
-            tails: [0; CPUS],
-        },
-    }
 }
 
 // What 0x20 and 0x21 share: a new list is read, and the change sets it. The plant's record is not read.
@@ -124,10 +76,13 @@ fn set_tsbs(extents: Extents, mem: &[u8], ntsb: u64, pointer: u64, change: Chang
         Follows extents plant (set_tsbs (sight_of (present extents) mem.now) plant ntsb pointer change)
         mem.now result mem.now }
 {
-    let new = new_tsbs(extents, mem, ntsb, pointer);
-    let verdict = new.verdict;
-    let tsbs = new.tsbs;
-    settled(verdict, change, tsbs)
+    match new_tsbs(extents, mem, ntsb, pointer) {
+        Err(r) => told(Answer::Refused(r)),
+        Ok(tsbs) => Done {
+            tsbs,
+            ..done_by(Answer::Done, change)
+        },
+    }
 }
 
 // 0x20: the list for context 0, whatever the plant's record is.

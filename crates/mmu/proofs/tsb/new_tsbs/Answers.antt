@@ -3,10 +3,10 @@ use Rattle.mmu.proofs.TsbLaws.{tsbs_none, tsbs_many, tsbs_align, tsbs_range, tsb
 use Rattle.mmu.proofs.tsb.new_tsbs.Goals as goal
 
 pub returns-then-ntsb-eq0 : goal.returns-then-ntsb-eq0
-returns-then-ntsb-eq0 c = search tsbs_none
+returns-then-ntsb-eq0 c = rw c.tsbs.ensures (search tsbs_none)
 
-pub returns-then-ntsb-gt4 : goal.returns-then-ntsb-gt4
-returns-then-ntsb-gt4 c = search tsbs_many
+pub returns-then-ntsb : goal.returns-then-ntsb
+returns-then-ntsb c = search tsbs_many
 
 pub returns-then-pointer-ne0 : goal.returns-then-pointer-ne0
 returns-then-pointer-ne0 c = search tsbs_align
