@@ -1,4 +1,5 @@
 -- Every status that the rules can answer has its words.
+use Rattle.std.proofs.Common.{Ok, Err}
 use mathlib.Core.Bool.{Bool, true, false, ◌||◌}
 use mathlib.Core.Path.{◌≡◌, refl}
 use mathlib.Core.List.{List, [], ◌∷◌}
@@ -9,7 +10,7 @@ use Rattle.rules.specs.declared.Refusal.{Refusal}
 use Rattle.rules.specs.declared.Refusal.TheVariants.{ENOCPU, ENORADDR, EBADPGSZ, EBADTSB, EINVAL, EBADTRAP, EBADALIGN, EWOULDBLOCK, ENOTSUPPORTED, BadTables, ShortMemory, NoCaller, NoSource}
 use Rattle.rules.specs.declared.ImageRefusal.{ImageRefusal}
 use Rattle.rules.specs.declared.ImageRefusal.TheVariants.{ImageShort, HeaderOrCount, ExtentNumbers, ExtentOrder, PagesShared, SourceTwice, FillOrBehind}
-use Rattle.rules.specs.declared.Loading.{Loading}
+use Rattle.rules.specs.Types.{Loading}
 use Rattle.rules.specs.declared.Answer.{Answer}
 use Rattle.rules.specs.declared.Answer.TheVariants.{Done, One, Two, Refused}
 use Rattle.rules.specs.Statuses.{status_of, numbers, image_numbers, loading_numbers}
@@ -55,5 +56,5 @@ image_listed (FillOrBehind guests) = refl
 
 pub every_loading : (answer : Loading) → listed meanings (get_or (loading_numbers answer) 0 0) ≡ true
 unfolding listed meanings loading_numbers
-every_loading Loading.Accepted = refl
-every_loading (Loading.Refused why) = image_listed why
+every_loading (Ok u) = refl
+every_loading (Err why) = image_listed why

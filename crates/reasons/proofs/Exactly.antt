@@ -1,9 +1,8 @@
 -- A fault is told exactly of the lines that are bad.
-use Rattle.std.specs.Prelude.{if◌then◌else◌}
+use Rattle.std.specs.Prelude.{if◌then◌else◌, Option, Some, None}
 use mathlib.Core.Bool.{Bool, true, false, ◌&&◌, not, false≢true}
 use mathlib.Core.Path.{◌≡◌, refl, sym, ap₂, subst⁻¹, ◌∙◌}
 use mathlib.Core.List.{List, [], ◌∷◌}
-use mathlib.Core.Option.{Option, none, some}
 use Prim.Native.Nat.{ℕ, suc, ◌+◌, ◌≤◌}
 use native.Mathlib.Nat.{add-zero, zero-add}
 use native.Mathlib.Omega.{arith}
@@ -11,12 +10,13 @@ use lib.Dec.{leb, eqb}
 use lib.ListN.{length}
 use borrow.Author.Tests.{leb-true, le-leb, eq-eqb, eqb-true}
 use Rattle.rules.specs.declared.Event.{Event}
+use Rattle.std.specs.Option.{is_some}
 use Rattle.rules.specs.Text.{Line, bad, image, event, word_image, call_word, word_head, word_raise, word_load, word_store, word_hit, same, consed, digits, field, fields, paired, paired_or, joined, event_line, event_or, image_or, line_of, pieces, parse, call_of, head_of, device_of, load_of, store_of, hit_of}
 use Rattle.rules.proofs.Tests.{and_left, and_right, bool_same}
 use Rattle.reasons.specs.declared.fault.Word.{Word}
 use Rattle.reasons.specs.declared.fault.Fault.{Fault}
 use Rattle.reasons.specs.declared.fault.Fault.TheVariants.{TooLong, EmptyField, NoNumber, NoDigit, OddDigits}
-use Rattle.reasons.specs.Faults.{◌or_tell◌then◌, is_some, word_of, least, most, why_field, why_count, ◌before◌, why_fields, why_event, why_image, why_line, last_byte, or_return, why_bad}
+use Rattle.reasons.specs.Faults.{◌or_tell◌then◌, word_of, least, most, why_field, why_count, ◌before◌, why_fields, why_event, why_image, why_line, last_byte, or_return, why_bad}
 
 abbrev pub is_bad : Line → Bool
 is_bad bad = true
@@ -28,13 +28,13 @@ image_exactly : (text : List ℕ) → is_some (why_image text) ≡ is_bad (image
 unfolding why_image
 image_exactly text = go (digits text)
   where
-    there : (o : Option (List ℕ)) → is_some (is_some o or_tell OddDigits then none) ≡ is_bad (image_or o)
-    there none = refl
-    there (some bytes) = refl
+    there : (o : Option (List ℕ)) → is_some (is_some o or_tell OddDigits then None) ≡ is_bad (image_or o)
+    there None = refl
+    there (Some bytes) = refl
 
-    go : (o : Option (List ℕ)) → is_some (is_some o or_tell NoDigit then is_some (paired_or o) or_tell OddDigits then none) ≡ is_bad (image_or (paired_or o))
-    go none = refl
-    go (some ds) = there (paired ds)
+    go : (o : Option (List ℕ)) → is_some (is_some o or_tell NoDigit then is_some (paired_or o) or_tell OddDigits then None) ≡ is_bad (image_or (paired_or o))
+    go None = refl
+    go (Some ds) = there (paired ds)
 
 -- n fields are as many as the word takes
 abbrev takes : Word → ℕ → Bool
@@ -42,20 +42,20 @@ takes word n = leb (least word) n && leb n (most word)
 
 -- n fields and these, of which one may be no number, are not what the word takes
 abbrev misfit : Word → ℕ → Option (List ℕ) → Bool
-misfit word n none = true
-misfit word n (some ns) = not (takes word (n + length ns))
+misfit word n None = true
+misfit word n (Some ns) = not (takes word (n + length ns))
 
 count_exactly : (word : Word) (n : ℕ) → is_some (why_count word n) ≡ not (takes word n)
 unfolding why_count
 count_exactly word n = go (leb (least word) n) (leb n (most word))
   where
-    go : (s t : Bool) → is_some (s or_tell Fault.TooFew word then t or_tell Fault.TooMany word then none) ≡ not (s && t)
+    go : (s t : Bool) → is_some (s or_tell Fault.TooFew word then t or_tell Fault.TooMany word then None) ≡ not (s && t)
     go true true = refl
     go true false = refl
     go false t = refl
 
 -- no field is empty and a number
-empty_none : (text : List ℕ) → leb 1 (length text) ≡ false → field text ≡ none
+empty_none : (text : List ℕ) → leb 1 (length text) ≡ false → field text ≡ None
 unfolding field
 empty_none text e = rw e
 
@@ -64,11 +64,11 @@ unfolding why_field
 field_exactly k text rest = go (leb 1 (length text)) refl (field text) refl
   where
     go : (t : Bool) → leb 1 (length text) ≡ t → (o : Option ℕ) → field text ≡ o
-        → is_some ((t or_tell EmptyField k then is_some o or_tell NoNumber k then none) before rest) ≡ (if is_some o then is_some rest else true)
-    go true e none f = refl
-    go true e (some v) f = refl
-    go false e none f = refl
-    go false e (some v) f = cc (empty_none text e)
+        → is_some ((t or_tell EmptyField k then is_some o or_tell NoNumber k then None) before rest) ≡ (if is_some o then is_some rest else true)
+    go true e None f = refl
+    go true e (Some v) f = refl
+    go false e None f = refl
+    go false e (Some v) f = cc (empty_none text e)
 
 fields_exactly : (word : Word) (n : ℕ) (texts : List (List ℕ)) → is_some (why_fields word n texts) ≡ misfit word n (fields texts)
 unfolding why_fields fields
@@ -78,20 +78,20 @@ fields_exactly word n (text ∷ texts) =
   where
     go : (o : Option ℕ) (p : Option (List ℕ)) → is_some (why_fields word (suc n) texts) ≡ misfit word (suc n) p
         → (if is_some o then is_some (why_fields word (suc n) texts) else true) ≡ misfit word n (consed o p)
-    go none p h = refl
-    go (some v) none h = h
-    go (some v) (some ns) h =
+    go None p h = refl
+    go (Some v) None h = h
+    go (Some v) (Some ns) h =
         let e : suc n + length ns ≡ n + suc (length ns) = omega arith in
         rw e at h
 
 -- an event whose first word is none, and whose fields are these
 abbrev unfit : Option Word → Option (List ℕ) → Bool
-unfit none o = true
-unfit (some word) o = misfit word 0 o
+unfit None o = true
+unfit (Some word) o = misfit word 0 o
 
 module _ (ns : List ℕ) where
   Exact : List ℕ → Type 0
-  Exact word = is_bad (event_line word ns) ≡ unfit (word_of word) (some ns)
+  Exact word = is_bad (event_line word ns) ≡ unfit (word_of word) (Some ns)
 
   fits : (t : Bool) (e : Event) → is_bad (if t then event e else bad) ≡ not t
   fits true e = refl
@@ -168,16 +168,16 @@ unfolding Exact
 event_exactly word texts = reasons (word_of word) ∙ sym (lines (fields texts))
   where
     reasons : (o : Option Word) → is_some (why_event o texts) ≡ unfit o (fields texts)
-    reasons none = refl
-    reasons (some w) = fields_exactly w 0 texts
+    reasons None = refl
+    reasons (Some w) = fields_exactly w 0 texts
 
-    unread : (o : Option Word) → true ≡ unfit o none
-    unread none = refl
-    unread (some w) = refl
+    unread : (o : Option Word) → true ≡ unfit o None
+    unread None = refl
+    unread (Some w) = refl
 
     lines : (o : Option (List ℕ)) → is_bad (event_or word o) ≡ unfit (word_of word) o
-    lines none = unread (word_of word)
-    lines (some ns) = named_exactly word ns
+    lines None = unread (word_of word)
+    lines (Some ns) = named_exactly word ns
 
 line_exactly : (ps : List (List ℕ)) → is_some (why_line ps) ≡ is_bad (line_of ps)
 unfolding why_line
@@ -195,8 +195,8 @@ unfolding why_bad parse
 why_exactly_bad line = go (leb (length line) 2048)
   where
     still : (t : Bool) (o : Option Fault) → is_some (or_return t o) ≡ is_some o
-    still t none = refl
-    still t (some fault) = refl
+    still t None = refl
+    still t (Some fault) = refl
 
     go : (t : Bool) → is_some (t or_tell TooLong then or_return (eqb (last_byte line) 0x0d) (why_line (pieces [] line))) ≡ is_bad (if t then line_of (pieces [] line) else bad)
     go true = still (eqb (last_byte line) 0x0d) (why_line (pieces [] line)) ∙ line_exactly (pieces [] line)

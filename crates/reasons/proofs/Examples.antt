@@ -1,6 +1,6 @@
 -- Worked examples: a line for each fault, a good line, and some answers with their reasons.
+use Rattle.std.proofs.Common.{Option, Some, None}
 use mathlib.Core.Path.{◌≡◌, refl}
-use mathlib.Core.Option.{Option, none, some}
 use Prim.Native.String.{String, ◌++◌}
 use lib.ListN.{replicate}
 use Rattle.text.specs.Pieces.{first_length}
@@ -23,67 +23,67 @@ why line = why_bad (bytes_of line)
 abbrev Explains : String → String → String → Type 0
 Explains line answer words = reason (bytes_of line) (bytes_of answer) ≡ bytes_of (words ++ "\n")
 
-good : why "call 0 0 80 a8 200 5 800" ≡ none
+good : why "call 0 0 80 a8 200 5 800" ≡ None
 unfolding explaining
 good = refl
 
-good_hit : why "hit 0 0 1 1 3 5" ≡ none
+good_hit : why "hit 0 0 1 1 3 5" ≡ None
 unfolding explaining
 good_hit = refl
 
-good_image : why "image 1 2 " ≡ none
+good_image : why "image 1 2 " ≡ None
 unfolding explaining
 good_image = refl
 
-other_word : why "calls 0 0 80 15" ≡ some OtherWord
+other_word : why "calls 0 0 80 15" ≡ Some OtherWord
 unfolding explaining
 other_word = refl
 
-empty_line : why "" ≡ some OtherWord
+empty_line : why "" ≡ Some OtherWord
 unfolding explaining
 empty_line = refl
 
-empty_field : why "raise 100  5" ≡ some (EmptyField 2)
+empty_field : why "raise 100  5" ≡ Some (EmptyField 2)
 unfolding explaining
 empty_field = refl
 
-last_empty : why "load 0 80 " ≡ some (EmptyField 3)
+last_empty : why "load 0 80 " ≡ Some (EmptyField 3)
 unfolding explaining
 last_empty = refl
 
-no_number : why "load 0 0x80" ≡ some (NoNumber 2)
+no_number : why "load 0 0x80" ≡ Some (NoNumber 2)
 unfolding explaining
 no_number = refl
 
-digits_17 : why "load 0 00000000000000080" ≡ some (NoNumber 2)
+digits_17 : why "load 0 00000000000000080" ≡ Some (NoNumber 2)
 unfolding explaining
 digits_17 = refl
 
-too_few : why "head 0 0 3c" ≡ some (TooFew Head)
+too_few : why "head 0 0 3c" ≡ Some (TooFew Head)
 unfolding explaining
 too_few = refl
 
-no_ticks : why "hit 0 0 1 1 3" ≡ some (TooFew Hit)
+no_ticks : why "hit 0 0 1 1 3" ≡ Some (TooFew Hit)
 unfolding explaining
 no_ticks = refl
 
-too_many : why "call 0 0 80 14 3c 0 0 0 0 0" ≡ some (TooMany Call)
+too_many : why "call 0 0 80 14 3c 0 0 0 0 0" ≡ Some (TooMany Call)
 unfolding explaining
 too_many = refl
 
-no_digit : why "image 12 2g1" ≡ some NoDigit
+no_digit : why "image 12 2g1" ≡ Some NoDigit
 unfolding explaining
 no_digit = refl
 
-odd_digits : why "image 12 1" ≡ some OddDigits
+odd_digits : why "image 12 1" ≡ Some OddDigits
 unfolding explaining
 odd_digits = refl
 
-return : why "load 0 80\r" ≡ some CarriageReturn
+return : why "load 0 80\r" ≡ Some CarriageReturn
 unfolding explaining
 return = refl
 
-too_long : why_bad (replicate 2049 0x30) ≡ some TooLong
+too_long : why_bad (replicate 2049 0x30) ≡ Some TooLong
 unfolding why_bad
 too_long = refl
 

@@ -1,30 +1,25 @@
 -- Laws of writing: a text byte by byte, a number digit by digit, and one behind another.
-use mathlib.Core.Path.{◌≡◌, refl, subst⁻¹, ◌∙◌}
-use mathlib.Core.List.{List, [], ◌∷◌, ◌++◌}
+use mathlib.Core.Path.{◌≡◌, refl, subst⁻¹}
+use mathlib.Core.List.{List, [], ◌∷◌, ◌++◌, append_assoc}
 use mathlib.Core.Logic.{⊎_elim}
-use Prim.Native.Nat.{ℕ, zero, suc, ◌+◌, ◌/◌, ◌%◌, ◌^◌, ◌<◌, ◌≤◌}
+use Prim.Native.Nat.{ℕ, zero, suc, ◌+◌, ◌-◌, ◌/◌, ◌%◌, ◌^◌, ◌<◌, ◌≤◌}
 use native.Mathlib.Nat.{pow-suc}
-use native.Mathlib.Numerals.{add-one}
 use native.Mathlib.Omega.{arith}
-use lib.ListN.{length, get_or, take, set, length-append}
-use lib.Seq.{sets, take_all, take-suc, length-take-le}
+use lib.ListN.{length, take, drop, set, length-append}
+use lib.Seq.{sets-eq, drop-drop}
 use borrow.Author.Tests.{lt-ltb, le-ltb}
 use Rattle.rules.proofs.Tests.{lt_or_ge}
 use Rattle.text.proofs.Stores.{sets_append}
 use Rattle.reasons.specs.Words.{decimal_of, decimal}
 use Rattle.reasons.specs.Put.{Put}
 
--- the first i bytes of a text
-module _ (text m o : List ℕ) (at i : ℕ) (e : o ≡ sets m at (take i text)) where
-  pub text_next : i < length text → set o (at + i) (get_or text i 0) ≡ sets m at (take (i + 1) text)
-  text_next h =
-      let l : length (take i text) ≡ i = length-take-le i text (omega arith) in
-      rw (e, add-one i, take-suc text i 0 h) (rw l at (sets_append (take i text) (get_or text i 0 ∷ []) m at))
-
-  pub text_end : length text ≤ i → i ≤ length text → Put m o at (at + i) text
-  text_end h k =
-      let q : i ≡ length text = omega arith in
-      record { behind = rw q; bytes = e ∙ rw (take_all i text h) }
+-- what a copy leaves in the part of an array that the text takes
+pub text_put : (text m t : List ℕ) (at : ℕ) → t ≡ text → at + length text ≤ length m
+    → Put m (take at m ++ (t ++ drop (at + length text - at) (drop at m))) at (at + length text) text
+text_put text m t at e h =
+    let k : at + length text - at ≡ length text = omega arith in
+    let d : drop (length text) (drop at m) ≡ drop (at + length text) m = drop-drop (length text) at m in
+    record { behind = refl; bytes = rw (e, k, d, sets-eq text m at h, append_assoc) }
 
 -- a text behind another
 pub put_behind : (a b m n o : List ℕ) (at r s : ℕ) → Put m n at r a → Put n o r s b → Put m o at s (a ++ b)

@@ -1,9 +1,8 @@
 -- A reason has at most 120 bytes, its line feed included.
-use Rattle.std.specs.Prelude.{if◌then◌else◌}
+use Rattle.std.specs.Prelude.{if◌then◌else◌, Option, Some, None}
 use mathlib.Core.Bool.{Bool, true, false, ◌&&◌}
 use mathlib.Core.Path.{◌≡◌, refl, sym}
 use mathlib.Core.List.{List, [], ◌∷◌}
-use mathlib.Core.Option.{Option, none, some}
 use Prim.Native.Nat.{ℕ, ◌+◌, ◌≤◌}
 use native.Mathlib.Omega.{arith}
 use lib.Dec.{leb, eqb}
@@ -16,10 +15,7 @@ use Rattle.reasons.specs.declared.fault.Word.{Word}
 use Rattle.reasons.specs.declared.fault.Word.TheVariants.{Call, Head, Raise, Load, Store, Hit}
 use Rattle.reasons.specs.declared.fault.Fault.{Fault}
 use Rattle.reasons.specs.declared.fault.Fault.TheVariants.{TooLong, CarriageReturn, OtherWord, EmptyField, NoNumber, TooFew, TooMany, NoDigit, OddDigits}
-use Rattle.reasons.specs.declared.fault.Why.{Why}
-use Rattle.reasons.specs.declared.fault.Why.TheVariants.{Good, Bad}
 use Rattle.reasons.specs.Faults.{why_bad}
-use Rattle.reasons.specs.Told.{told}
 use Rattle.reasons.specs.Put.{Put}
 use Rattle.reasons.specs.Words.{Meaning, meanings, meaning_in, form, fault_text, why_text, status_text, unfed, first_piece, reason_by, reason}
 use Rattle.reasons.proofs.PutLaws.{decimal_most}
@@ -63,15 +59,15 @@ fault_short (TooMany word) = omega (arith, form_short word)
 fault_short NoDigit = omega arith
 fault_short OddDigits = omega arith
 
-why_short : (why : Why) → Short (why_text why)
+why_short : (why : Option Fault) → Short (why_text why)
 unfolding why_text
-why_short Good = omega arith
-why_short (Bad fault) = fault_short fault
+why_short None = omega arith
+why_short (Some fault) = fault_short fault
 
 status_short : (o : Option ℕ) → Short (status_text o)
 unfolding status_text short_all meanings
-status_short none = omega arith
-status_short (some status) = meaning_short meanings status refl
+status_short None = omega arith
+status_short (Some status) = meaning_short meanings status refl
 
 pub reason_short : (line answer : List ℕ) → length (reason line answer) ≤ 120
 unfolding reason reason_by
@@ -80,8 +76,8 @@ reason_short line answer = rw length-append (go (same text word_bad))
     text : List ℕ
     text = first_piece (unfed answer)
 
-    go : (t : Bool) → length (if t then why_text (told (why_bad line)) else status_text (field text)) + 1 ≤ 120
-    go true = omega (arith, why_short (told (why_bad line)))
+    go : (t : Bool) → length (if t then why_text (why_bad line) else status_text (field text)) + 1 ≤ 120
+    go true = omega (arith, why_short (why_bad line))
     go false = omega (arith, status_short (field text))
 
 -- so it has room, and the front of the array that holds it can be lent

@@ -1,8 +1,9 @@
 -- Laws of the table of meanings, and of the reason at each return of the code.
+use Rattle.std.proofs.Common.{Some, None}
 use mathlib.Core.Bool.{Bool, true, false}
+use Rattle.std.specs.Prelude.{Option, Some, None}
 use mathlib.Core.Path.{◌≡◌, refl, sym, ◌∙◌}
 use mathlib.Core.List.{List, [], ◌∷◌, ◌++◌, append_assoc}
-use mathlib.Core.Option.{none, some}
 use Prim.Native.Nat.{ℕ, zero, suc, ◌+◌, ◌-◌, ◌≤◌}
 use native.Mathlib.Nat.{zero-add}
 use native.Mathlib.Omega.{arith}
@@ -10,14 +11,11 @@ use lib.ListN.{length, take, drop}
 use lib.Seq.{take-length}
 use borrow.Author.Tests.{eq-eqb, ne_eqb}
 use Rattle.rules.specs.Text.{bytes_of, line_feed, word_bad, same, field}
-use Rattle.text.specs.declared.number.Number.{Number}
-use Rattle.text.specs.Pieces.{first_length, number_or}
-use Rattle.reasons.specs.declared.fault.Why.{Why}
+use Rattle.text.specs.Pieces.{first_length}
+use Rattle.reasons.specs.declared.fault.Fault.{Fault}
 use Rattle.reasons.specs.Faults.{last_byte, why_bad}
-use Rattle.reasons.specs.Told.{told}
 use Rattle.reasons.specs.Words.{Meaning, meaning_in, meaning, no_meaning, why_text, status_text, unfed, first_piece, fed, reason_by, reason}
 use Rattle.reasons.specs.Put.{Put}
-use Rattle.reasons.proofs.FieldLaws.{tells_bad, tells_is}
 
 -- the status is none of a table's, beside what is known already: as a match tells it of the numbers that have no arm
 abbrev pub Others : Type 0 → List Meaning → ℕ → Type 0
@@ -41,18 +39,18 @@ pub put_fed : (a b c m o : List ℕ) (at r : ℕ) → Put m o at r (a ++ (b ++ f
 put_fed a b c m o at r p = simp append_assoc p
 
 -- a status, by the number that its text is
-module _ (text m o : List ℕ) (r : ℕ) (number : Number) (q : number ≡ number_or (field text)) where
-  pub status_none : number ≡ Number.Bad → Put m o 0 r (fed (bytes_of no_meaning)) → Put m o 0 r (fed (status_text (field text)))
+module _ (text m o : List ℕ) (r : ℕ) where
+  pub status_none : None ≡ field text → Put m o 0 r (fed (bytes_of no_meaning)) → Put m o 0 r (fed (status_text (field text)))
   unfolding status_text
-  status_none b p = let z : field text ≡ none = tells_bad (field text) number q b in rw z p
+  status_none q p = rw (← q) p
 
-  pub status_is : (v : ℕ) → number ≡ Number.Is v → Put m o 0 r (fed (meaning v)) → Put m o 0 r (fed (status_text (field text)))
+  pub status_is : (v : ℕ) → Some v ≡ field text → Put m o 0 r (fed (meaning v)) → Put m o 0 r (fed (status_text (field text)))
   unfolding status_text
-  status_is v b p = let z : field text ≡ some v = tells_is (field text) number q v b in rw z p
+  status_is v q p = rw (← q) p
 
 -- the reason, by an answer's first piece: t is what the code's test of it came to
 module _ (line text m o : List ℕ) (r : ℕ) (t : Bool) (p : t ≡ same text word_bad) where
-  pub by_bad : t ≡ true → (why : Why) → why ≡ told (why_bad line) → Put m o 0 r (fed (why_text why)) → Put m o 0 r (fed (reason_by line text))
+  pub by_bad : t ≡ true → (why : Option Fault) → why ≡ why_bad line → Put m o 0 r (fed (why_text why)) → Put m o 0 r (fed (reason_by line text))
   unfolding reason_by
   by_bad h why e w = rw (← p, h, ← e) w
 

@@ -1,7 +1,7 @@
 -- Why a line is bad. "A line prints bad .. if it is too long, has another first word, a field that is no such number, too few or
 -- too many fields, or an odd number of image digits": the first of these that holds, piece by piece as `parse` of the rules goes.
-use Rattle.std.specs.Prelude.{Bool, true, false, List, [], ◌∷◌, ℕ, suc, ◌-◌, leb, eqb, length, get_or, if◌then◌else◌}
-use Rattle.std.proofs.Math.Option.{Option, none, some}
+use Rattle.std.specs.Prelude.{Bool, true, false, List, [], ◌∷◌, ℕ, suc, ◌-◌, leb, eqb, length, get_or, if◌then◌else◌, Option, Some, None}
+use Rattle.std.specs.Option.{is_some}
 use Rattle.rules.specs.Text.{word_image, call_word, word_head, word_raise, word_load, word_store, word_hit, same, pieces, digits, field, paired_or, joined}
 use Rattle.reasons.specs.declared.fault.Word.{Word}
 use Rattle.reasons.specs.declared.fault.Word.TheVariants.{Call, Head, Raise, Load, Store, Hit}
@@ -12,22 +12,18 @@ use Rattle.reasons.specs.declared.fault.Fault.TheVariants.{TooLong, CarriageRetu
 infixr 5 ◌or_tell◌then◌
 abbrev pub ◌or_tell◌then◌ : Bool → Fault → Option Fault → Option Fault
 ◌or_tell◌then◌ true fault rest = rest
-◌or_tell◌then◌ false fault rest = some fault
-
-abbrev pub is_some : {A : Type 0} → Option A → Bool
-is_some none = false
-is_some (some a) = true
+◌or_tell◌then◌ false fault rest = Some fault
 
 -- the event that a first word names
 unfoldable pub word_of : List ℕ → Option Word
 word_of text =
-    if same text call_word then some Call else
-    if same text word_head then some Head else
-    if same text word_raise then some Raise else
-    if same text word_load then some Load else
-    if same text word_store then some Store else
-    if same text word_hit then some Hit else
-    none
+    if same text call_word then Some Call else
+    if same text word_head then Some Head else
+    if same text word_raise then Some Raise else
+    if same text word_load then Some Load else
+    if same text word_store then Some Store else
+    if same text word_hit then Some Hit else
+    None
 
 -- how few and how many fields it takes: "Only the five arguments of a call may be missing"
 abbrev pub least : Word → ℕ
@@ -51,20 +47,20 @@ unfoldable pub why_field : ℕ → List ℕ → Option Fault
 why_field k text =
     leb 1 (length text) or_tell EmptyField k then
     is_some (field text) or_tell NoNumber k then
-    none
+    None
 
 -- n fields
 unfoldable pub why_count : Word → ℕ → Option Fault
 why_count word n =
     leb (least word) n or_tell TooFew word then
     leb n (most word) or_tell TooMany word then
-    none
+    None
 
 -- the first fault, if there is one
 infixr 6 ◌before◌
 abbrev pub ◌before◌ : Option Fault → Option Fault → Option Fault
-◌before◌ none rest = rest
-◌before◌ (some fault) rest = some fault
+◌before◌ None rest = rest
+◌before◌ (Some fault) rest = Some fault
 
 -- the fields that follow n others
 unfoldable pub why_fields : Word → ℕ → List (List ℕ) → Option Fault
@@ -72,19 +68,19 @@ why_fields word n [] = why_count word n
 why_fields word n (text ∷ texts) = why_field (suc n) text before why_fields word (suc n) texts
 
 abbrev pub why_event : Option Word → List (List ℕ) → Option Fault
-why_event none texts = some OtherWord
-why_event (some word) texts = why_fields word 0 texts
+why_event None texts = Some OtherWord
+why_event (Some word) texts = why_fields word 0 texts
 
 -- an image's text, its spaces skipped
 unfoldable pub why_image : List ℕ → Option Fault
 why_image text =
     is_some (digits text) or_tell NoDigit then
     is_some (paired_or (digits text)) or_tell OddDigits then
-    none
+    None
 
 -- a line's first word and what follows it
 unfoldable pub why_line : List (List ℕ) → Option Fault
-why_line [] = some OtherWord
+why_line [] = Some OtherWord
 why_line (word ∷ texts) = if same word word_image then why_image (joined texts) else why_event (word_of word) texts
 
 -- the last byte of a line, and 0 of an empty one
@@ -94,8 +90,8 @@ last_byte line = get_or line (length line - 1) 0
 -- Files from other systems have a carriage return (0d) at every line's end: of a bad line that ends in one, that is told. A good
 -- line stays good.
 abbrev pub or_return : Bool → Option Fault → Option Fault
-or_return returned none = none
-or_return returned (some fault) = some (if returned then CarriageReturn else fault)
+or_return returned None = None
+or_return returned (Some fault) = Some (if returned then CarriageReturn else fault)
 
 unfoldable pub why_bad : List ℕ → Option Fault
 why_bad line =

@@ -1,4 +1,3 @@
 pub mod Faults
-pub mod Told
 pub mod Words
 pub mod Put

@@ -1,6 +1,5 @@
 -- What an answer means, in words: a line of text for every status, and for every fault of a bad line.
-use Rattle.std.specs.Prelude.{List, [], ◌∷◌, ◌++◌, ℕ, zero, suc, ◌+◌, ◌-◌, ◌/◌, ◌%◌, ltb, eqb, length, take, if◌then◌else◌}
-use Rattle.std.proofs.Math.Option.{Option, none, some}
+use Rattle.std.specs.Prelude.{List, [], ◌∷◌, ◌++◌, ℕ, zero, suc, ◌+◌, ◌-◌, ◌/◌, ◌%◌, ltb, eqb, length, take, if◌then◌else◌, Option, Some, None}
 use Prim.Native.String.{String}
 use Rattle.rules.specs.Text.{bytes_of, line_feed, word_bad, same, field}
 use Rattle.text.specs.Pieces.{first_length}
@@ -8,10 +7,7 @@ use Rattle.reasons.specs.declared.fault.Word.{Word}
 use Rattle.reasons.specs.declared.fault.Word.TheVariants.{Call, Head, Raise, Load, Store, Hit}
 use Rattle.reasons.specs.declared.fault.Fault.{Fault}
 use Rattle.reasons.specs.declared.fault.Fault.TheVariants.{TooLong, CarriageReturn, OtherWord, EmptyField, NoNumber, TooFew, TooMany, NoDigit, OddDigits}
-use Rattle.reasons.specs.declared.fault.Why.{Why}
-use Rattle.reasons.specs.declared.fault.Why.TheVariants.{Good, Bad}
 use Rattle.reasons.specs.Faults.{last_byte, why_bad}
-use Rattle.reasons.specs.Told.{told}
 
 -- a status and its words
 pub record Meaning : Type 0 where
@@ -86,14 +82,14 @@ fault_text (TooMany word) = bytes_of "too many fields: " ++ form word
 fault_text NoDigit = bytes_of "the image has a byte that is no hex digit"
 fault_text OddDigits = bytes_of "the image has an odd number of hex digits"
 
-unfoldable pub why_text : Why → List ℕ
-why_text Good = bytes_of "nothing is wrong with the line"
-why_text (Bad fault) = fault_text fault
+unfoldable pub why_text : Option Fault → List ℕ
+why_text None = bytes_of "nothing is wrong with the line"
+why_text (Some fault) = fault_text fault
 
 -- a status as it is printed: a text that is no number is no status
 unfoldable pub status_text : Option ℕ → List ℕ
-status_text none = bytes_of no_meaning
-status_text (some status) = meaning status
+status_text None = bytes_of no_meaning
+status_text (Some status) = meaning status
 
 -- an answer without its line feed
 unfoldable pub unfed : List ℕ → List ℕ
@@ -108,7 +104,7 @@ fed text = text ++ (line_feed ∷ [])
 
 -- the reason for the answer to a line, by the answer's first piece
 unfoldable pub reason_by : List ℕ → List ℕ → List ℕ
-reason_by line text = if same text word_bad then why_text (told (why_bad line)) else status_text (field text)
+reason_by line text = if same text word_bad then why_text (why_bad line) else status_text (field text)
 
 -- the line of text that explains what the session printed for a line
 unfoldable pub reason : List ℕ → List ℕ → List ℕ

@@ -1,7 +1,7 @@
 // What can be wrong with a line.
 
 // The first word of an event.
-#[derive(Clone, Copy)]
+#[derive(Clone, Copy, PartialEq, Eq)]
 pub enum Word {
     Call,
     Head,
@@ -12,7 +12,7 @@ pub enum Word {
 }
 
 // A field is told by its place behind the first word, from 1; too few and too many fields by the word that asks for others.
-#[derive(Drop)]
+#[derive(Clone, Copy, PartialEq, Eq)]
 pub enum Fault {
     TooLong,
     CarriageReturn,
@@ -23,11 +23,4 @@ pub enum Fault {
     TooMany(Word),
     NoDigit,
     OddDigits,
-}
-
-// A line is good, or bad for a reason.
-#[derive(Drop)]
-pub enum Why {
-    Good,
-    Bad(Fault),
 }

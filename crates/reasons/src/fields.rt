@@ -2,10 +2,9 @@
 ghost use Rattle.std.specs.Prelude.{◌≡◌, ◌≤◌, length, drop};
 ghost use Rattle.text.specs.Pieces.{behind};
 ghost use Rattle.reasons.specs.Faults.{least, most, why_field, why_count, why_fields};
-ghost use Rattle.reasons.specs.Told.{told};
 
-use crate::fault::{Fault, Why, Word};
-use text::{Number, piece_end, read_number};
+use crate::fault::{Fault, Word};
+use text::{piece_end, read_number};
 
 fn least_of(word: Word) -> usize
     ensures { result ≡ least word }
@@ -25,55 +24,50 @@ fn most_of(word: Word) -> usize
 {
     match word {
         Word::Call => 9,
-        Word::Head => 4,
-        Word::Raise => 2,
-        Word::Load => 2,
-        Word::Store => 3,
-        Word::Hit => 6,
+        _ => least_of(word),
     }
 }
 
 // n fields that are all numbers.
-fn why_count(word: Word, n: usize) -> Why
-    ensures { result ≡ told (why_count word n) }
+#[tactic(auto, unfolding(crate::specs::Faults::why_count))]
+fn why_count(word: Word, n: usize) -> Option<Fault>
+    ensures { result ≡ why_count word n }
 {
     if n < least_of(word) {
-        return Why::Bad(Fault::TooFew(word));
+        return Some(Fault::TooFew(word));
     }
     if most_of(word) < n {
-        return Why::Bad(Fault::TooMany(word));
+        return Some(Fault::TooMany(word));
     }
-    Why::Good
+    None
 }
 
 // The field at the place k.
-fn why_field(text: &[u8], k: usize) -> Why
-    ensures { result ≡ told (why_field k text.now) }
+#[tactic(auto, unfolding(crate::specs::Faults::why_field))]
+fn why_field(text: &[u8], k: usize) -> Option<Fault>
+    ensures { result ≡ why_field k text.now }
 {
-    if text.len() < 1 {
-        return Why::Bad(Fault::EmptyField(k));
+    if text.is_empty() {
+        return Some(Fault::EmptyField(k));
     }
-    let number = read_number(text);
-    match number {
-        Number::Bad => Why::Bad(Fault::NoNumber(k)),
-        Number::Is(_) => Why::Good,
+    match read_number(text) {
+        None => Some(Fault::NoNumber(k)),
+        Some(_) => None,
     }
 }
 
 // The fields behind the first word, which ends at `end`. `at` is always the place of the space before a field, or the line's end.
-pub(crate) fn why_fields(s: &[u8], end: usize, word: Word) -> Why
+pub(crate) fn why_fields(s: &[u8], end: usize, word: Word) -> Option<Fault>
     requires { end ≤ length s.now }
-    ensures { result ≡ told (why_fields word 0 (behind (drop end s.now))) }
+    ensures { result ≡ why_fields word 0 (behind (drop end s.now)) }
 {
     let mut count = 0;
     let mut at = end;
     while at < s.len() {
-        let from = at + 1;
-        let next = piece_end(s, from);
+        let next = piece_end(s, at + 1);
         count += 1;
-        let why = why_field(&s[from..next], count);
-        if let Why::Bad(fault) = why {
-            return Why::Bad(fault);
+        if let Some(fault) = why_field(&s[at + 1..next], count) {
+            return Some(fault);
         }
         at = next;
     }

@@ -2,31 +2,27 @@
 ghost use Rattle.std.specs.Prelude.{◌≡◌, ◌≤◌, length, drop};
 ghost use Rattle.text.specs.Pieces.{unspaced};
 ghost use Rattle.reasons.specs.Faults.{why_image};
-ghost use Rattle.reasons.specs.Told.{told};
 
-use crate::fault::{Fault, Why};
-use text::{NO_DIGIT, digit_of};
+use crate::fault::Fault;
+use text::digit_of;
 
 // The image that is left from the place from on. odd: a digit waits for the second one of its byte.
-pub(crate) fn why_image(s: &[u8], from: usize) -> Why
+pub(crate) fn why_image(s: &[u8], from: usize) -> Option<Fault>
     requires { from ≤ length s.now }
-    ensures { result ≡ told (why_image (unspaced (drop from s.now))) }
+    ensures { result ≡ why_image (unspaced (drop from s.now)) }
 {
     let mut odd = false;
-    let mut i = from;
-    while i < s.len() {
-        let b = s[i];
-        i += 1;
-        if b == b' ' {
+    for b in &s[from..] {
+        if *b == b' ' {
             continue;
         }
-        if digit_of(b) == NO_DIGIT {
-            return Why::Bad(Fault::NoDigit);
+        if digit_of(*b).is_none() {
+            return Some(Fault::NoDigit);
         }
         odd = !odd;
     }
     if odd {
-        return Why::Bad(Fault::OddDigits);
+        return Some(Fault::OddDigits);
     }
-    Why::Good
+    None
 }

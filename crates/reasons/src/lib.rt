@@ -9,7 +9,7 @@ mod put;
 mod reason;
 mod words;
 
-pub use fault::{Fault, Why, Word};
+pub use fault::{Fault, Word};
 pub use line::why_bad;
 pub use put::ROOM;
 pub use reason::put_reason;

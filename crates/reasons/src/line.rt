@@ -2,81 +2,72 @@
 ghost use Rattle.std.specs.Prelude.{◌≡◌, []};
 ghost use Rattle.rules.specs.Text.{pieces};
 ghost use Rattle.reasons.specs.Faults.{word_of, last_byte, why_line, why_bad};
-ghost use Rattle.reasons.specs.Told.{told, found_or};
 
-use crate::fault::{Fault, Why, Word};
+use crate::fault::{Fault, Word};
 use crate::fields::why_fields;
 use crate::image::why_image;
 use text::{piece_end, same_text};
 
-// An event's word, or another text.
-#[derive(Drop)]
-pub enum Found {
-    Event(Word),
-    Other,
-}
-
-fn word_of(text: &[u8]) -> Found
-    ensures { result ≡ found_or (word_of text.now) }
+// The event that a first word names.
+#[tactic(auto, unfolding(crate::specs::Faults::word_of))]
+fn word_of(text: &[u8]) -> Option<Word>
+    ensures { result ≡ word_of text.now }
 {
     if same_text(text, b"call") {
-        return Found::Event(Word::Call);
+        return Some(Word::Call);
     }
     if same_text(text, b"head") {
-        return Found::Event(Word::Head);
+        return Some(Word::Head);
     }
     if same_text(text, b"raise") {
-        return Found::Event(Word::Raise);
+        return Some(Word::Raise);
     }
     if same_text(text, b"load") {
-        return Found::Event(Word::Load);
+        return Some(Word::Load);
     }
     if same_text(text, b"store") {
-        return Found::Event(Word::Store);
+        return Some(Word::Store);
     }
     if same_text(text, b"hit") {
-        return Found::Event(Word::Hit);
+        return Some(Word::Hit);
     }
-    Found::Other
+    None
 }
 
 // Of a line that is not too long: its first word, and what follows it.
-fn why_line(s: &[u8]) -> Why
-    ensures { result ≡ told (why_line (pieces [] s.now)) }
+fn why_line(s: &[u8]) -> Option<Fault>
+    ensures { result ≡ why_line (pieces [] s.now) }
 {
     let end = piece_end(s, 0);
     if same_text(&s[..end], b"image") {
         return why_image(s, end);
     }
-    let found = word_of(&s[..end]);
-    let Found::Event(word) = found else {
-        return Why::Bad(Fault::OtherWord);
-    };
-    why_fields(s, end, word)
+    match word_of(&s[..end]) {
+        None => Some(Fault::OtherWord),
+        Some(word) => why_fields(s, end, word),
+    }
 }
 
+#[tactic(auto, unfolding(crate::specs::Faults::last_byte))]
 pub(crate) fn last_byte(s: &[u8]) -> u8
     ensures { result ≡ last_byte s.now }
 {
-    if s.len() == 0 {
-        return 0;
+    match s.last() {
+        None => 0,
+        Some(b) => *b,
     }
-    s[s.len() - 1]
 }
 
-// A line without its line feed.
-pub fn why_bad(line: &[u8]) -> Why
-    ensures { result ≡ told (why_bad line.now) }
+// What is wrong with a line, without its line feed; None where it is good.
+pub fn why_bad(line: &[u8]) -> Option<Fault>
+    ensures { result ≡ why_bad line.now }
 {
     if 2048 < line.len() {
-        return Why::Bad(Fault::TooLong);
+        return Some(Fault::TooLong);
     }
-    let why = why_line(line);
-    let Why::Bad(fault) = why else {
-        return Why::Good;
-    };
+    let fault = why_line(line)?;
     if last_byte(line) == b'\r' {
-        return Why::Bad(Fault::CarriageReturn);
+        return Some(Fault::CarriageReturn);
     }
-    Why::Bad(fault)
+    Some(fault)
 }

@@ -11,12 +11,9 @@ pub(crate) fn put_text(text: &[u8], at: usize, out: &mut [u8; ROOM]) -> usize
     requires { at + length text.now ≤ 256 }
     ensures { Put out.old out.new at result text.now }
 {
-    let mut i = 0;
-    while i < text.len() {
-        out[at + i] = text[i];
-        i += 1;
-    }
-    at + i
+    let end = at + text.len();
+    out[at..end].copy_from_slice(text);
+    end
 }
 
 // Writes a number in decimal, its leading digits first.

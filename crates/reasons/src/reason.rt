@@ -7,16 +7,15 @@ ghost use Rattle.reasons.specs.Put.{Put};
 use crate::line::{last_byte, why_bad};
 use crate::put::{ROOM, put_text};
 use crate::words::{put_meaning, put_why};
-use text::{Number, piece_end, read_number, same_text};
+use text::{piece_end, read_number, same_text};
 
 // A status as it is printed.
 fn put_status(text: &[u8], out: &mut [u8; ROOM]) -> usize
     ensures { Put out.old out.new 0 result (fed (status_text (field text.now))) }
 {
-    let number = read_number(text);
-    match number {
-        Number::Bad => put_text(b"no status of the rules\n", 0, out),
-        Number::Is(status) => put_meaning(status, out),
+    match read_number(text) {
+        None => put_text(b"no status of the rules\n", 0, out),
+        Some(status) => put_meaning(status, out),
     }
 }
 

@@ -4,7 +4,7 @@ ghost use Rattle.rules.specs.Text.{bytes_of};
 ghost use Rattle.reasons.specs.Words.{meanings, meaning_in, meaning, decimal, form, fault_text, why_text, fed};
 ghost use Rattle.reasons.specs.Put.{Put};
 
-use crate::fault::{Fault, Why, Word};
+use crate::fault::{Fault, Word};
 use crate::put::{ROOM, put_decimal, put_text};
 
 // What a status means: those of loading, behind the fourteenth of the table.
@@ -181,12 +181,13 @@ fn put_fault(fault: Fault, out: &mut [u8; ROOM]) -> usize
     }
 }
 
-// Why a line is bad.
-pub fn put_why(why: Why, out: &mut [u8; ROOM]) -> usize
+// Why a line is bad, or that it is not.
+#[tactic(auto, unfolding(crate::specs::Words::why_text))]
+pub fn put_why(why: Option<Fault>, out: &mut [u8; ROOM]) -> usize
     ensures { Put out.old out.new 0 result (fed (why_text why)) }
 {
     match why {
-        Why::Good => put_text(b"nothing is wrong with the line\n", 0, out),
-        Why::Bad(fault) => put_fault(fault, out),
+        None => put_text(b"nothing is wrong with the line\n", 0, out),
+        Some(fault) => put_fault(fault, out),
     }
 }

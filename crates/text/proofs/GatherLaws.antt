@@ -1,6 +1,5 @@
 -- Laws of the fields behind a word, as the loop reads one after another.
 use Rattle.std.proofs.Common.{Option, Some, None}
-use mathlib.Core.Bool.{true}
 use mathlib.Core.Path.{◌≡◌, refl, sym, ◌∙◌}
 use mathlib.Core.List.{List, [], ◌∷◌, ◌++◌, append_assoc, append-nil}
 use Prim.Native.Nat.{ℕ, suc, ◌+◌, ◌-◌, ◌<◌, ◌≤◌}

@@ -1,5 +1,5 @@
 -- Laws of an image's text. Of what is read so far, `done` are the whole bytes, and high is the digit that waits for the second one of its byte.
-use Rattle.std.specs.Prelude.{if◌then◌else◌, Option, Some, None}
+use Rattle.std.specs.Prelude.{Option, Some, None}
 use Rattle.std.specs.Option.{option_map}
 use Rattle.std.proofs.lemmas.List.{take_rest}
 use mathlib.Core.Path.{◌≡◌, refl, sym, ◌∙◌}

@@ -1,22 +1,25 @@
--- `image::why_image` meets its contract. The invariant: the digit that waits, if odd, and the text from i on make the image.
+-- `image::why_image` meets its contract. The invariant: the digit that waits, if odd, and the text that is left make the image.
+use Rattle.std.proofs.Common.{◌∙◌, ap}
+use Rattle.std.proofs.lemmas.List.{take_rest}
+use Rattle.reasons.specs.Faults.{why_image}
+use Rattle.text.specs.Pieces.{unspaced}
 use Rattle.reasons.proofs.ImageLaws.{image_start, image_space, image_bad, image_digit, image_odd, image_even}
-use native.Mathlib.Omega.{arith}
 use Rattle.reasons.proofs.image.why_image.Goals as goal
 
-pub loop-i-init : goal.loop-i-init
-loop-i-init c = (omega arith, image_start _)
+pub loop-b-init : goal.loop-b-init
+loop-b-init c = image_start _ ∙ ap (λ t. why_image (unspaced t)) (take_rest c.args.s.now c.args.from)
 
-pub loop-i-preserved-then-b-eq32 : goal.loop-i-preserved-then-b-eq32
-loop-i-preserved-then-b-eq32 c = (omega arith, search image_space)
+pub loop-b-preserved-then-b-eq32 : goal.loop-b-preserved-then-b-eq32
+loop-b-preserved-then-b-eq32 c = image_space _ _ _ _ c.loop-b.invariant c.loop-b-test.true c.if-b-eq32.true
 
-pub returns-then-digit_of-eq-NO_DIGIT : goal.returns-then-digit_of-eq-NO_DIGIT
-returns-then-digit_of-eq-NO_DIGIT c = search image_bad
+pub returns-then-is_none : goal.returns-then-is_none
+returns-then-is_none c = image_bad _ _ _ _ c.loop-b.invariant c.loop-b-test.true c.if-b-eq32.false _ _ c.is_none.ensures c.digit_of.ensures c.if-is_none.true
 
-pub loop-i-preserved : goal.loop-i-preserved
-loop-i-preserved c = (omega arith, search image_digit)
+pub loop-b-preserved : goal.loop-b-preserved
+loop-b-preserved c = image_digit _ _ _ _ c.loop-b.invariant c.loop-b-test.true c.if-b-eq32.false _ _ c.is_none.ensures c.digit_of.ensures c.if-is_none.false
 
 pub returns-then-odd : goal.returns-then-odd
-returns-then-odd c = search image_odd
+returns-then-odd c = image_odd _ _ _ _ c.loop-b.invariant c.loop-b-test.false c.if-odd.true
 
 pub returns : goal.returns
-returns c = search image_even
+returns c = image_even _ _ _ _ c.loop-b.invariant c.loop-b-test.false c.if-odd.false

@@ -18,11 +18,11 @@ returns-then-same_text c = search line_image
 pub slice_bounds-word_of-end : goal.slice_bounds-word_of-end
 slice_bounds-word_of-end c = sym (length-take-le _ _ (end_within _ _ _ (omega arith) c.piece_end-end.ensures))
 
-pub returns-in_default : goal.returns-in_default
-returns-in_default c = search line_other
+pub returns-in-None : goal.returns-in-None
+returns-in-None c = line_other _ _ c.piece_end-end.ensures _ c.same_text.ensures c.if-same_text.false c.in-None.ensures
 
 pub why_fields-requires : goal.why_fields-requires
 why_fields-requires c = end_within _ _ _ (omega arith) c.piece_end-end.ensures
 
-pub returns : goal.returns
-returns c = search line_event
+pub returns-in-Some : goal.returns-in-Some
+returns-in-Some c = line_event _ _ c.piece_end-end.ensures _ c.same_text.ensures c.if-same_text.false _ c.in-Some.ensures _ c.why_fields.ensures

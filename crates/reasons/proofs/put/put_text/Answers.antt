@@ -1,7 +1,7 @@
--- `put::put_text` meets its contract. The invariant: the first i bytes stand there.
-use Rattle.reasons.proofs.PutLaws.{text_next}
-use native.Mathlib.Omega.{arith}
+-- `put::put_text` meets its contract: the copy leaves the text, and the rest of the array.
+use Rattle.std.proofs.Common.{arith}
+use Rattle.reasons.proofs.PutLaws.{text_put}
 use Rattle.reasons.proofs.put.put_text.Goals as goal
 
-pub loop-i-preserved : goal.loop-i-preserved
-loop-i-preserved c = (omega arith, text_next _ _ _ _ c.loop-i.i c.loop-i.invariant.1 (omega arith))
+pub returns : goal.returns
+returns c = text_put _ _ _ _ c.copy_from_slice.ensures.after (omega arith)

@@ -1,5 +1,5 @@
 -- `number::read_number` meets its contract. The invariant: v is the number of the digits so far, and makes with those behind them the text's.
-use Rattle.std.proofs.Common.{◌≡◌, ◌<◌, ◌≤◌, ◌∙◌, Some, length, sym, arith}
+use Rattle.std.proofs.Common.{◌≡◌, ◌≤◌, ◌∙◌, Some, length, sym, arith}
 use Rattle.std.proofs.lemmas.Bool.Decides.{nat_tests}
 use mathlib.Core.Logic.{⊎_elim}
 use Rattle.rules.specs.Text.{digit_of}
