@@ -1,6 +1,4 @@
-pub mod Breaking
-pub mod NameLaws
-pub mod Ordered
 pub mod Filled
-pub mod Places
+pub mod Searches
 pub mod Pairs
+pub mod NameLaws

@@ -1,16 +1,11 @@
--- The two rules on a guest's extents, as one.
-use Rattle.std.specs.Prelude.{Bool, ◌||◌, List, ℕ, ◌+◌, ◌-◌, leb, eqb, get_or}
-use Rattle.rules.specs.declared.Extent.{Extent}
+-- What the tests are that the searches take.
+use Rattle.std.specs.Prelude.{◌≡◌, Bool, ℕ, ◌<◌}
 use Rattle.rules.specs.declared.Extents.{Extents}
-use Rattle.rules.specs.Kept.{blank_extent}
-use Rattle.rules.specs.Image.{extent_right}
-use Rattle.partition.specs.declared.Rule.{Rule}
 
--- the rule at extent i of a list
-unfoldable pub holds_at : Rule → List Extent → ℕ → Bool
-holds_at Rule.Right list i = extent_right (get_or list i blank_extent)
-holds_at Rule.Follows list i = eqb i 0 || leb ((get_or list (i - 1) blank_extent).real + (get_or list (i - 1) blank_extent).count) (get_or list i blank_extent).real
+-- each call of a test says whether the rule holds of an extent
+abbrev pub Holds : (Extents → ℕ → Bool → Type 0) → (Extents → ℕ → Bool) → Type 0
+Holds post rule = (e : Extents) (i : ℕ) (b : Bool) → post e i b → b ≡ rule e i
 
--- the rule as the image's rules have it
-abbrev pub rule_of : Rule → Extents → ℕ → Bool
-rule_of rule e i = holds_at rule e.extent i
+-- each call of a test says whether two of n places clash
+abbrev pub Clashes : (ℕ → ℕ → Bool → Type 0) → ℕ → (ℕ → ℕ → Bool) → Type 0
+Clashes post n p = (i j : ℕ) (b : Bool) → i < j → j < n → post i j b → b ≡ p i j
