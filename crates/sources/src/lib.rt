@@ -1,7 +1,8 @@
 // Interrupt sources: 0xa0 to 0xae.
 #![tactic(auto)]
 
-ghost use Rattle.std.specs.Prelude.{◌≡◌, ◌&&◌, ◌≤◌, ◌<◌, eqb};
+ghost use Rattle.std.specs.Prelude.{◌≡◌, ℕ, ◌≤◌, ◌<◌};
+ghost use Rattle.std.specs.List.{position};
 ghost use Rattle.rules.specs.Limits.{source_limit};
 ghost use Rattle.rules.specs.declared.Plant.{Plant as PlantRecord};
 ghost use Rattle.rules.specs.Image.{named};
@@ -10,157 +11,152 @@ ghost use Rattle.rules.specs.Rulings.{outcome_of};
 ghost use Rattle.rules.specs.Sources.{set_enabled, set_state, set_target, set_cookie};
 ghost use Rattle.rules.specs.Sources.{sysino_of, intr_devino2sysino, source_call, cookie_call, intr, vintr};
 ghost use Rattle.plants.specs.Done.{quietly, saying};
-ghost use Rattle.sources.specs.Seen.{named_in, Shows};
+ghost use Rattle.sources.specs.Seen.{named_in, Shows, set_to};
 
 use plants::{Change, Done, done_by, told};
-use rules::{Answer, CookieCall, Found, Plant, Refusal, Source, SourceCall};
+use rules::{Answer, CookieCall, Plant, Refusal, Source, SourceCall};
 
 fn is_named(s: Source, devhandle: u64, devino: u64) -> bool
     ensures { result ≡ named s devhandle devino }
 {
-    if s.devhandle as u64 != devhandle {
-        return false;
-    }
-    s.devino as u64 == devino
+    u64::from(s.devhandle) == devhandle && u64::from(s.devino) == devino
 }
 
-// No source of that name; or its position in the guest's own list, and its record.
-#[derive(Clone, Copy)]
-pub enum Named {
-    Nothing,
-    At(usize, Source),
-}
-
-// The source of a name; what lies past the end of the list is not looked at.
-pub fn source_named(plant: Plant, devhandle: u64, devino: u64) -> Named
-    requires { plant.sources ≤ source_limit }
-    ensures { result ≡ named_in plant devhandle devino }
+// The position of the first source of that name.
+fn position_of(list: &[Source], devhandle: u64, devino: u64) -> Option<usize>
+    ensures { result ≡ position (λ s. named s devhandle devino) list.now }
 {
-    let count = plant.sources as usize;
-    let source = plant.source;
-    let mut i = 0;
-    while i < count {
-        let s = source[i];
-        if is_named(s, devhandle, devino) {
-            return Named::At(i, s);
-        }
-        i += 1;
-    }
-    Named::Nothing
+    list.iter().position(|s| is_named(*s, devhandle, devino))
 }
 
-// The position alone.
-pub fn sysino_of(plant: Plant, devhandle: u64, devino: u64) -> Found
+// A source's position in the guest's own list; what lies past the end of the list is not looked at.
+pub fn sysino_of(plant: Plant, devhandle: u64, devino: u64) -> Option<usize>
     requires { plant.sources ≤ source_limit }
     ensures { result ≡ sysino_of plant devhandle devino }
 {
-    let found = source_named(plant, devhandle, devino);
-    match found {
-        Named::Nothing => Found::Nothing,
-        Named::At(i, _) => Found::At(i),
-    }
+    position_of(
+        &plant.source[..usize::from(plant.sources)],
+        devhandle,
+        devino,
+    )
 }
 
-// Enabling that a source without a cookie does not allow, under 2.0.
-fn lacks_cookie(version: u8, cookie: u64, value: u64) -> bool
-    ensures { result ≡ (eqb value 1 && (eqb version 2 && eqb cookie 0)) }
+// The same with the source's record.
+#[tactic(auto, using(rules::proofs::Scan::first_below_lem), unfolding(rules::specs::Sources::sysino_of, crate::specs::Seen::named_as))]
+pub fn source_named(plant: Plant, devhandle: u64, devino: u64) -> Option<(usize, Source)>
+    requires { plant.sources ≤ source_limit }
+    ensures { result ≡ named_in plant devhandle devino }
 {
-    if value != 1 {
-        return false;
-    }
-    if version != 2 {
-        return false;
-    }
-    cookie == 0
+    let i = sysino_of(plant, devhandle, devino)?;
+    Some((i, plant.source[i]))
 }
 
-fn set_enabled(version: u8, i: usize, source: Source, value: u64) -> Done
-    requires { i < source_limit }
-    ensures { (plant : PlantRecord) → version ≡ plant.versions.interrupt → source ≡ source_at plant i →
-        quietly plant result ≡ outcome_of plant (set_enabled plant i value) }
+// Enabling a source without a cookie is not allowed under 2.0.
+#[tactic(auto, unfolding(rules::specs::Sources::set_enabled, crate::specs::Seen::set_to))]
+fn set_enabled(version: u8, source: Source, value: u64) -> Result<Source, Refusal>
+    ensures { (plant : PlantRecord) (i : ℕ) → version ≡ plant.versions.interrupt → source ≡ source_at plant i →
+        set_enabled plant i value ≡ set_to plant i result }
 {
     if 1 < value {
-        return told(Answer::Refused(Refusal::EINVAL));
+        return Err(Refusal::EINVAL);
     }
-    if lacks_cookie(version, source.cookie, value) {
-        return told(Answer::Refused(Refusal::EINVAL));
+    if value == 1 && version == 2 && source.cookie == 0 {
+        return Err(Refusal::EINVAL);
     }
-    let mut s = source;
-    s.enabled = value as u8;
-    done_by(Answer::Done, Change::Source(i, s))
+    Ok(Source {
+        enabled: value as u8,
+        ..source
+    })
 }
 
-fn set_state(i: usize, source: Source, value: u64) -> Done
-    requires { i < source_limit }
-    ensures { (plant : PlantRecord) → source ≡ source_at plant i → quietly plant result ≡ outcome_of plant (set_state plant i value) }
+#[tactic(auto, unfolding(rules::specs::Sources::set_state, crate::specs::Seen::set_to))]
+fn set_state(source: Source, value: u64) -> Result<Source, Refusal>
+    ensures { (plant : PlantRecord) (i : ℕ) → source ≡ source_at plant i → set_state plant i value ≡ set_to plant i result }
 {
     if 2 < value {
-        return told(Answer::Refused(Refusal::EINVAL));
+        return Err(Refusal::EINVAL);
     }
-    let mut s = source;
-    s.state = value as u8;
-    done_by(Answer::Done, Change::Source(i, s))
+    Ok(Source {
+        state: value as u8,
+        ..source
+    })
 }
 
 // The cpu has to be one of the guest's own.
-fn set_target(cpus: u8, i: usize, source: Source, value: u64) -> Done
-    requires { i < source_limit }
-    ensures { (plant : PlantRecord) → cpus ≡ plant.cpus → source ≡ source_at plant i →
-        quietly plant result ≡ outcome_of plant (set_target plant i value) }
+#[tactic(auto, unfolding(rules::specs::Sources::set_target, crate::specs::Seen::set_to))]
+fn set_target(cpus: u8, source: Source, value: u64) -> Result<Source, Refusal>
+    ensures { (plant : PlantRecord) (i : ℕ) → cpus ≡ plant.cpus → source ≡ source_at plant i → set_target plant i value ≡ set_to plant i result }
 {
-    if cpus as u64 <= value {
-        return told(Answer::Refused(Refusal::ENOCPU));
+    if u64::from(cpus) <= value {
+        return Err(Refusal::ENOCPU);
     }
-    let mut s = source;
-    s.target = value as u8;
-    done_by(Answer::Done, Change::Source(i, s))
+    Ok(Source {
+        target: value as u8,
+        ..source
+    })
 }
 
 // Cookie 0 disables; 1 to 2,047 are no cookies.
-fn set_cookie(i: usize, source: Source, value: u64) -> Done
-    requires { i < source_limit }
-    ensures { (plant : PlantRecord) → source ≡ source_at plant i → quietly plant result ≡ outcome_of plant (set_cookie plant i value) }
+#[tactic(auto, unfolding(rules::specs::Sources::set_cookie, crate::specs::Seen::set_to))]
+fn set_cookie(source: Source, value: u64) -> Result<Source, Refusal>
+    ensures { (plant : PlantRecord) (i : ℕ) → source ≡ source_at plant i → set_cookie plant i value ≡ set_to plant i result }
 {
-    let mut s = source;
-    s.cookie = value;
-    if value == 0 {
-        s.enabled = 0;
-        return done_by(Answer::Done, Change::Source(i, s));
+    match value {
+        0 => Ok(Source {
+            cookie: 0,
+            enabled: 0,
+            ..source
+        }),
+        1..=2047 => Err(Refusal::EINVAL),
+        _ => Ok(Source {
+            cookie: value,
+            ..source
+        }),
     }
-    if value <= 2047 {
-        return told(Answer::Refused(Refusal::EINVAL));
+}
+
+// Source i as a setting left it, or the refusal.
+#[tactic(auto, unfolding(crate::specs::Seen::set_to, plants::specs::Changes::done_by, plants::specs::Changes::plant_after, plants::specs::Changes::changed_by))]
+fn set_done(i: usize, after: Result<Source, Refusal>) -> Done
+    requires { i < source_limit }
+    ensures { (plant : PlantRecord) → quietly plant result ≡ outcome_of plant (set_to plant i after) }
+{
+    match after {
+        Ok(source) => done_by(Answer::Done, Change::Source(i, source)),
+        Err(r) => told(Answer::Refused(r)),
     }
-    done_by(Answer::Done, Change::Source(i, s))
 }
 
 // 0xa0: the sysino of a source.
+#[tactic(auto, unfolding(rules::specs::Sources::intr_devino2sysino))]
 pub fn intr_devino2sysino(plant: Plant, devhandle: u64, devino: u64) -> Answer
     requires { plant.sources ≤ source_limit }
     ensures { saying plant result ≡ outcome_of plant (intr_devino2sysino plant devhandle devino) }
 {
-    let found = sysino_of(plant, devhandle, devino);
-    match found {
-        Found::Nothing => Answer::Refused(Refusal::EINVAL),
-        Found::At(i) => Answer::One(i as u64),
+    match sysino_of(plant, devhandle, devino) {
+        None => Answer::Refused(Refusal::EINVAL),
+        Some(i) => Answer::One(i as u64),
     }
 }
 
 // What a call asks of source i, of any plant that shows this of it.
+#[tactic(auto, unfolding(rules::specs::Sources::source_call, rules::specs::Sources::get_enabled, rules::specs::Sources::get_state, rules::specs::Sources::get_target, plants::specs::Changes::done_by, plants::specs::Changes::plant_after, plants::specs::Changes::changed_by))]
 fn source_call(version: u8, cpus: u8, i: usize, s: Source, value: u64, call: SourceCall) -> Done
     requires { i < source_limit }
     ensures { (plant : PlantRecord) → Shows plant version cpus i s →
         quietly plant result ≡ outcome_of plant (source_call plant i value call) }
 {
     match call {
-        SourceCall::GetEnabled => told(Answer::One(s.enabled as u64)),
-        SourceCall::SetEnabled => set_enabled(version, i, s, value),
-        SourceCall::GetState => told(Answer::One(s.state as u64)),
-        SourceCall::SetState => set_state(i, s, value),
-        SourceCall::GetTarget => told(Answer::One(s.target as u64)),
-        SourceCall::SetTarget => set_target(cpus, i, s, value),
+        SourceCall::GetEnabled => told(Answer::One(u64::from(s.enabled))),
+        SourceCall::SetEnabled => set_done(i, set_enabled(version, s, value)),
+        SourceCall::GetState => told(Answer::One(u64::from(s.state))),
+        SourceCall::SetState => set_done(i, set_state(s, value)),
+        SourceCall::GetTarget => told(Answer::One(u64::from(s.target))),
+        SourceCall::SetTarget => set_done(i, set_target(cpus, s, value)),
     }
 }
 
+#[tactic(auto, unfolding(rules::specs::Sources::cookie_call, rules::specs::Sources::get_cookie, plants::specs::Changes::done_by, plants::specs::Changes::plant_after, plants::specs::Changes::changed_by))]
 fn cookie_call(version: u8, cpus: u8, i: usize, s: Source, value: u64, call: CookieCall) -> Done
     requires { i < source_limit }
     ensures { (plant : PlantRecord) → Shows plant version cpus i s →
@@ -168,33 +164,38 @@ fn cookie_call(version: u8, cpus: u8, i: usize, s: Source, value: u64, call: Coo
 {
     match call {
         CookieCall::GetCookie => told(Answer::One(s.cookie)),
-        CookieCall::SetCookie => set_cookie(i, s, value),
+        CookieCall::SetCookie => set_done(i, set_cookie(s, value)),
         CookieCall::Source(other) => source_call(version, cpus, i, s, value, other),
     }
 }
 
 // 0xa1 to 0xa6, by sysino.
+#[tactic(auto, unfolding(rules::specs::Sources::intr, plants::specs::Changes::done_by, plants::specs::Changes::plant_after, plants::specs::Changes::changed_by))]
 pub fn intr(plant: Plant, call: SourceCall, sysino: u64, value: u64) -> Done
     requires { plant.sources ≤ source_limit }
     ensures { quietly plant result ≡ outcome_of plant (intr plant call sysino value) }
 {
-    let count = plant.sources as u64;
-    if count <= sysino {
+    if u64::from(plant.sources) <= sysino {
         return told(Answer::Refused(Refusal::EINVAL));
     }
     let i = sysino as usize;
-    let source = plant.source;
-    let s = source[i];
-    source_call(plant.versions.interrupt, plant.cpus, i, s, value, call)
+    source_call(
+        plant.versions.interrupt,
+        plant.cpus,
+        i,
+        plant.source[i],
+        value,
+        call,
+    )
 }
 
 // 0xa7 to 0xae, by devhandle and devino.
+#[tactic(auto, unfolding(rules::specs::Sources::vintr, crate::specs::Seen::named_as, plants::specs::Changes::done_by, plants::specs::Changes::plant_after, plants::specs::Changes::changed_by))]
 pub fn vintr(plant: Plant, call: CookieCall, devhandle: u64, devino: u64, value: u64) -> Done
     requires { plant.sources ≤ source_limit }
     ensures { quietly plant result ≡ outcome_of plant (vintr plant call devhandle devino value) }
 {
-    let found = source_named(plant, devhandle, devino);
-    let Named::At(i, s) = found else {
+    let Some((i, s)) = source_named(plant, devhandle, devino) else {
         return told(Answer::Refused(Refusal::EINVAL));
     };
     if !s.cookies {

@@ -1,9 +1,10 @@
--- `sources::sysino_of` meets its contract: what the scan found, without the record.
-use Rattle.sources.proofs.SourceLaws.{named_nothing, named_at}
+-- `sources::sysino_of` meets its contract: the position among the sources that are there is the rule's first number.
+use Rattle.std.proofs.Common.{◌∙◌, arith}
+use Rattle.rules.specs.Kept.{blank_source}
+use Rattle.rules.specs.Sources.{sysino_of}
+use Rattle.sources.proofs.Positions.{position_first}
 use Rattle.sources.proofs.sysino_of.Goals as goal
 
-pub returns-in-Nothing : goal.returns-in-Nothing
-returns-in-Nothing c = search named_nothing
-
-pub returns-in-At : goal.returns-in-At
-returns-in-At c = search named_at
+pub returns : goal.returns
+unfolding sysino_of
+returns c = (rw c.from.ensures at c.position_of.ensures) ∙ position_first _ blank_source c.args.plant.sources c.args.plant.source (omega arith)
