@@ -55,6 +55,9 @@ module _ (l : List ℕ) (i k : ℕ) where
       let e : i + k - i ≡ k = omega arith in
       rw e (sym (take-add i k l))
 
+-- what each turn of a walk asks
+pub ruleset walks = (walk_some, walk_most, walk_fits, cut_length)
+
 -- one write, once all of it is put
 pub put_all : (es : List Extent) (m vs after : List ℕ) (base : ℕ) → after ≡ put_bytes es m base vs → after ≡ apply es m (one base vs)
 unfolding apply

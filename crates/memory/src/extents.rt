@@ -47,6 +47,7 @@ fn onward(x: Extent, at: u64) -> u64
 }
 
 // How far every address from base on lies in some extent: one step an extent, in the order of the list.
+#[tactic(auto, using(crate::proofs::Holds::onward_on, crate::proofs::Holds::onward_end))]
 fn reached(e: Extents, base: u64) -> u64
     requires { e.extents ≤ extent_limit }
     ensures { result ≡ reach (present e) base }
@@ -59,6 +60,7 @@ fn reached(e: Extents, base: u64) -> u64
 }
 
 // Whether each byte of the range lies in some extent of the guest. No sum of base and len is made, so none can wrap.
+#[tactic(auto, using(crate::proofs::Reached::reach_from, crate::proofs::Reached::valid_is))]
 pub fn range_valid(e: Extents, base: u64, len: u64) -> bool
     requires { e.extents ≤ extent_limit }
     ensures { result ≡ valid (present e) base len }
@@ -75,6 +77,7 @@ pub(crate) struct Piece {
 }
 
 // Of the len bytes from a real address of the extent on, those that lie in it.
+#[tactic(auto, using(crate::proofs::Holds::part_is))]
 fn part(x: Extent, real: Real, len: usize) -> Piece
     requires { (low x ≤ real.0) × (real.0 < high x) }
     ensures { (result ≡ part_of x real.0 len) × (real.0 + result.len < 2 ^ 64) }
@@ -88,6 +91,7 @@ fn part(x: Extent, real: Real, len: usize) -> Piece
 
 // The first piece of the len bytes from a real address on: those in the extent that has the address, or none if no extent has. The
 // address behind the piece is a number of 64 bits, so that one can go on from there.
+#[tactic(auto, using(crate::proofs::Holds::piece_found, crate::proofs::Holds::piece_on, crate::proofs::Holds::piece_none))]
 pub(crate) fn piece_at(e: Extents, real: Real, len: usize) -> Piece
     requires { e.extents ≤ extent_limit }
     ensures { (result ≡ piece_of (present e) real.0 len) × (real.0 + result.len < 2 ^ 64) }

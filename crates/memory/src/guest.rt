@@ -10,6 +10,7 @@ use crate::runs::{number_in, write, zero};
 use rules::{Extents, Host, Real};
 
 // Fills out with the bytes from a real address on.
+#[tactic(auto, using(crate::proofs::Walks::walks, crate::proofs::Walks::walk_read), unfolding(rules::specs::Real::bytes_from))]
 fn read_at(e: Extents, mem: &[u8], real: Real, out: &mut [u8])
     requires extents_le_extent_limit { e.extents ≤ extent_limit }
     requires ready { Ready (present e) (length mem.now) }
@@ -38,6 +39,7 @@ pub fn bytes<const N: usize>(e: Extents, mem: &[u8], real: Real) -> [u8; N]
 }
 
 // The number that the K bytes from a real address on make.
+#[tactic(auto, using(crate::proofs::Walks::number_read))]
 pub fn number<const K: usize>(e: Extents, mem: &[u8], real: Real) -> u64
     requires k_bound { K ≤ 8 }
     requires extents_le_extent_limit { e.extents ≤ extent_limit }
@@ -48,44 +50,8 @@ pub fn number<const K: usize>(e: Extents, mem: &[u8], real: Real) -> u64
     number_in(&bytes::<K>(e, mem, real))
 }
 
-pub fn number2(e: Extents, mem: &[u8], real: Real) -> u16
-    requires extents_le_extent_limit { e.extents ≤ extent_limit }
-    requires ready { Ready (present e) (length mem.now) }
-    requires real_value { valid (present e) real.0 2 ≡ true }
-    ensures { result ≡ number_of (byte_at (present e) mem.now) real.0 2 }
-{
-    number::<2>(e, mem, real) as u16
-}
-
-pub fn number4(e: Extents, mem: &[u8], real: Real) -> u32
-    requires extents_le_extent_limit { e.extents ≤ extent_limit }
-    requires ready { Ready (present e) (length mem.now) }
-    requires real_value { valid (present e) real.0 4 ≡ true }
-    ensures { result ≡ number_of (byte_at (present e) mem.now) real.0 4 }
-{
-    number::<4>(e, mem, real) as u32
-}
-
-pub fn number8(e: Extents, mem: &[u8], real: Real) -> u64
-    requires extents_le_extent_limit { e.extents ≤ extent_limit }
-    requires ready { Ready (present e) (length mem.now) }
-    requires real_value { valid (present e) real.0 8 ≡ true }
-    ensures { result ≡ number_of (byte_at (present e) mem.now) real.0 8 }
-{
-    number::<8>(e, mem, real)
-}
-
-// The 64 bytes from a real address.
-pub fn bytes64(e: Extents, mem: &[u8], real: Real) -> [u8; 64]
-    requires extents_le_extent_limit { e.extents ≤ extent_limit }
-    requires ready { Ready (present e) (length mem.now) }
-    requires real_value { valid (present e) real.0 64 ≡ true }
-    ensures { result ≡ bytes_from (byte_at (present e) mem.now) real.0 64 }
-{
-    bytes::<64>(e, mem, real)
-}
-
 // Writes src from a real address on.
+#[tactic(auto, using(crate::proofs::Walks::walks), unfolding(rules::specs::Real::put_bytes))]
 pub fn write_at(e: Extents, mem: &mut [u8], real: Real, src: &[u8])
     requires extents_le_extent_limit { e.extents ≤ extent_limit }
     requires ready { Ready (present e) (length mem.old) }
@@ -102,6 +68,7 @@ pub fn write_at(e: Extents, mem: &mut [u8], real: Real, src: &[u8])
 }
 
 // Zeroes n bytes from a real address on.
+#[tactic(auto, using(crate::proofs::Walks::walks), unfolding(rules::specs::Real::put_bytes))]
 pub fn zero_at(e: Extents, mem: &mut [u8], real: Real, n: usize)
     requires extents_le_extent_limit { e.extents ≤ extent_limit }
     requires ready { Ready (present e) (length mem.old) }

@@ -9,5 +9,5 @@ mod runs;
 
 pub use bounds::{greatest, least};
 pub use extents::range_valid;
-pub use guest::{bytes, bytes64, number, number2, number4, number8, write_at, zero_at};
+pub use guest::{bytes, number, write_at, zero_at};
 pub use runs::{word_bytes, write};

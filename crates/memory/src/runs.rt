@@ -5,6 +5,7 @@ ghost use Rattle.rules.specs.Real.{number_of, word_bytes};
 ghost use Rattle.memory.specs.Cells.{cell};
 
 // Copies src into mem from the offset at.
+#[tactic(auto, using(crate::proofs::Stores::copy_stores))]
 pub fn write(mem: &mut [u8], at: usize, src: &[u8])
     requires { at + length src.now ≤ length mem.old }
     ensures { mem.new ≡ sets mem.old at src.now }
@@ -13,6 +14,7 @@ pub fn write(mem: &mut [u8], at: usize, src: &[u8])
 }
 
 // Zeroes n bytes of mem from the offset at.
+#[tactic(auto, using(crate::proofs::Stores::fill_stores))]
 pub(crate) fn zero(mem: &mut [u8], at: usize, n: usize)
     requires { at + n ≤ length mem.old }
     ensures { mem.new ≡ sets mem.old at (replicate n 0) }
@@ -21,6 +23,7 @@ pub(crate) fn zero(mem: &mut [u8], at: usize, n: usize)
 }
 
 // The number that bytes make, most significant first.
+#[tactic(auto, using(crate::proofs::Numbers::number_more, crate::proofs::Numbers::number_below, crate::proofs::Numbers::number_end), unfolding(rules::specs::Real::number_of))]
 pub(crate) fn number_in(bytes: &[u8]) -> u64
     requires { length bytes.now ≤ 8 }
     ensures { (result ≡ number_of (cell bytes.now) 0 (length bytes.now)) × (result < 256 ^ length bytes.now) }
@@ -33,6 +36,7 @@ pub(crate) fn number_in(bytes: &[u8]) -> u64
 }
 
 // The bytes of a word, most significant first.
+#[tactic(auto, unfolding(rules::specs::Real::word_bytes))]
 pub fn word_bytes(v: u64) -> [u8; 8]
     ensures { result ≡ word_bytes v }
 {
