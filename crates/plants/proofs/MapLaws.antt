@@ -11,10 +11,6 @@ use lib.ListN.{length, get_or, set}
 use Rattle.plants.specs.Changes.{map_first}
 
 module _ {A : Type 0} where
-  pub map_none : (f : ℕ → A → A) (l : List A) → l ≡ map_first f 0 l
-  unfolding map_first
-  map_none f l = refl
-
   step : (f : ℕ → A → A) (d : A) (i : ℕ) (l : List A) → set (map_first f i l) i (f i (get_or (map_first f i l) i d)) ≡ map_first f (suc i) l
   unfolding map_first
   step f d zero [] = refl

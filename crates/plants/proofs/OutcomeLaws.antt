@@ -1,5 +1,5 @@
 -- From what a rule says, x, to what the code gives back: the laws of the single calls need to speak of the rule alone.
-use mathlib.Core.Path.{◌≡◌, ap}
+use mathlib.Core.Path.{◌≡◌, refl, ap}
 use mathlib.Core.List.{List}
 use Prim.Native.Nat.{ℕ, ◌<◌}
 use lib.ListN.{replicate}
@@ -9,9 +9,10 @@ use Rattle.rules.specs.declared.QueueRecord.{QueueRecord}
 use Rattle.rules.specs.declared.Source.{Source}
 use Rattle.rules.specs.declared.Refusal.{Refusal}
 use Rattle.rules.specs.declared.Answer.{Answer}
+use Rattle.rules.specs.declared.Versions.{Versions}
 use Rattle.rules.specs.declared.Answer.TheVariants.{Refused}
 use Rattle.rules.specs.Limits.{cpu_limit, queue_limit, source_limit}
-use Rattle.rules.specs.Kept.{blank_tsbs, with_queue, with_statistics, with_source}
+use Rattle.rules.specs.Kept.{blank_tsbs, with_versions, with_queue, with_statistics, with_source}
 use Rattle.rules.specs.Real.{apply}
 use Rattle.rules.specs.Rulings.{Ruling, refused, Outcome, outcome_of, says}
 use Rattle.memory.specs.Ready.{present}
@@ -44,11 +45,8 @@ module _ (plant : Plant) (x : Ruling Outcome) where
     unfolding plant_after done_by
     changes a change m g f e = rw (g, e, f)
 
-    -- a queue of a cpu, a cpu's statistics address, a source
+    -- a cpu's statistics address, a source
     module _ (a : Answer) where
-      pub queue_changes : (c q : ℕ) (held : QueueRecord) → d ≡ done_by a (Change.Cpu c (CpuChange.Queue q held)) → c < cpu_limit → q < queue_limit → x ≡ says a (with_queue plant c q held) → quietly plant d ≡ outcome_of plant x
-      queue_changes c q held g h k e = changes a _ _ g (queue_after plant _ _ c h q held k) e
-
       pub statistics_changes : (c address : ℕ) → d ≡ done_by a (Change.Cpu c (CpuChange.Statistics address)) → c < cpu_limit → x ≡ says a (with_statistics plant c address) → quietly plant d ≡ outcome_of plant x
       statistics_changes c address g h e = changes a _ _ g (statistics_after plant _ _ c h address) e
 
@@ -70,3 +68,35 @@ module _ (extents : Extents) (plant : Plant) (x : Ruling Outcome) (m : List ℕ)
 
   pub quiet_refused : (r : Refusal) → d ≡ done_by (Refused r) Change.Nothing → x ≡ refused r → Follows extents plant x m d m
   quiet_refused r g e = quiet (tells_refusal plant x d r e g)
+
+-- what the code gives back, as rewrites: its answer, and the record after each change
+pub answer_done : (a : Answer) (change : Change) → (done_by a change).answer ≡ a
+unfolding done_by
+answer_done a change = refl
+
+module _ (plant : Plant) (a : Answer) where
+  pub change_done : (change : Change) → plant_after plant (done_by a change) ≡ changed_by plant blank_tsbs (replicate cpu_limit 0) change
+  unfolding plant_after done_by
+  change_done change = refl
+
+  pub nothing_done : plant_after plant (done_by a Change.Nothing) ≡ plant
+  unfolding plant_after changed_by done_by
+  nothing_done = refl
+
+  pub versions_done : (v : Versions) → plant_after plant (done_by a (Change.Versions v)) ≡ with_versions plant v
+  unfolding plant_after changed_by done_by
+  versions_done v = refl
+
+  pub queue_done : (c q : ℕ) (held : QueueRecord) → c < cpu_limit → q < queue_limit → plant_after plant (done_by a (Change.Cpu c (CpuChange.Queue q held))) ≡ with_queue plant c q held
+  unfolding plant_after done_by
+  queue_done c q held h k = queue_after plant _ _ c h q held k
+
+  pub statistics_done : (c address : ℕ) → c < cpu_limit → plant_after plant (done_by a (Change.Cpu c (CpuChange.Statistics address))) ≡ with_statistics plant c address
+  unfolding plant_after done_by
+  statistics_done c address h = statistics_after plant _ _ c h address
+
+  pub source_done : (i : ℕ) (s : Source) → i < source_limit → plant_after plant (done_by a (Change.Source i s)) ≡ with_source plant i s
+  unfolding plant_after done_by
+  source_done i s h = source_after plant _ _ i s h
+
+pub ruleset outcomes = (answer_done, nothing_done, versions_done, queue_done, statistics_done, source_done)

@@ -35,7 +35,7 @@ fn held_now(cpu: usize, q: usize, held: QueueRecord) -> Done
 }
 
 // 0x14: a queue's ring is set, or with n = 0 unset.
-#[tactic(auto, using(records::proofs::Told::ring_told, records::proofs::Told::entries_most,), unfolding(rules::specs::Queues::cpu_qconf, crate::specs::Places::place_of, plants::specs::Changes::done_by, plants::specs::Changes::plant_after, plants::specs::Changes::changed_by, plants::specs::Changes::cpu_after, rules::specs::Kept::with_queue,),)]
+#[tactic(auto, using(plants::proofs::OutcomeLaws::outcomes, records::proofs::Told::ring_told, records::proofs::Told::entries_most), unfolding(rules::specs::Queues::cpu_qconf, crate::specs::Places::place_of))]
 pub fn cpu_qconf(extents: Extents, plant: Plant, cpu: usize, queue: u64, base: u64, n: u64) -> Done
     requires { (extents.extents ≤ extent_limit) × (cpu < cpu_limit) }
     ensures { quietly plant result ≡ outcome_of plant (cpu_qconf (valid (present extents)) plant cpu queue base n) }
@@ -121,7 +121,7 @@ fn head_moves(ring: Ring, value: u64) -> Result<Ring, Refusal>
 }
 
 // The head write: it moves the one field of one ring. Of the plant it reads the cpu's own record only.
-#[tactic(auto, unfolding(rules::specs::Queues::write_head, crate::specs::Places::place_of, crate::specs::Rings::new_head, crate::specs::Rings::moved_of, plants::specs::Changes::done_by, plants::specs::Changes::plant_after, plants::specs::Changes::changed_by, plants::specs::Changes::cpu_after, rules::specs::Kept::with_queue,),)]
+#[tactic(auto, using(plants::proofs::OutcomeLaws::outcomes), unfolding(rules::specs::Queues::write_head, crate::specs::Places::place_of, crate::specs::Rings::new_head, crate::specs::Rings::moved_of))]
 pub fn write_head(own: Cpu, cpu: usize, queue: u64, value: u64) -> Done
     requires { (cpu < cpu_limit) × (queue ≤ 0x3f → PlacesSound (queue_at own (queue - 0x3c))) }
     ensures { (plant : PlantRecord) → cpu_at plant cpu ≡ own → quietly plant result ≡ outcome_of plant (write_head plant cpu queue value) }

@@ -116,7 +116,7 @@ fn set_cookie(source: Source, value: u64) -> Result<Source, Refusal>
 }
 
 // Source i as a setting left it, or the refusal.
-#[tactic(auto, unfolding(crate::specs::Seen::set_to, plants::specs::Changes::done_by, plants::specs::Changes::plant_after, plants::specs::Changes::changed_by))]
+#[tactic(auto, using(plants::proofs::OutcomeLaws::outcomes), unfolding(crate::specs::Seen::set_to))]
 fn set_done(i: usize, after: Result<Source, Refusal>) -> Done
     requires { i < source_limit }
     ensures { (plant : PlantRecord) → quietly plant result ≡ outcome_of plant (set_to plant i after) }
@@ -140,7 +140,7 @@ pub fn intr_devino2sysino(plant: Plant, devhandle: u64, devino: u64) -> Answer
 }
 
 // What a call asks of source i, of any plant that shows this of it.
-#[tactic(auto, unfolding(rules::specs::Sources::source_call, rules::specs::Sources::get_enabled, rules::specs::Sources::get_state, rules::specs::Sources::get_target, plants::specs::Changes::done_by, plants::specs::Changes::plant_after, plants::specs::Changes::changed_by))]
+#[tactic(auto, using(plants::proofs::OutcomeLaws::outcomes), unfolding(rules::specs::Sources::source_call, rules::specs::Sources::get_enabled, rules::specs::Sources::get_state, rules::specs::Sources::get_target))]
 fn source_call(version: u8, cpus: u8, i: usize, s: Source, value: u64, call: SourceCall) -> Done
     requires { i < source_limit }
     ensures { (plant : PlantRecord) → Shows plant version cpus i s →
@@ -156,7 +156,7 @@ fn source_call(version: u8, cpus: u8, i: usize, s: Source, value: u64, call: Sou
     }
 }
 
-#[tactic(auto, unfolding(rules::specs::Sources::cookie_call, rules::specs::Sources::get_cookie, plants::specs::Changes::done_by, plants::specs::Changes::plant_after, plants::specs::Changes::changed_by))]
+#[tactic(auto, using(plants::proofs::OutcomeLaws::outcomes), unfolding(rules::specs::Sources::cookie_call, rules::specs::Sources::get_cookie))]
 fn cookie_call(version: u8, cpus: u8, i: usize, s: Source, value: u64, call: CookieCall) -> Done
     requires { i < source_limit }
     ensures { (plant : PlantRecord) → Shows plant version cpus i s →
@@ -170,7 +170,7 @@ fn cookie_call(version: u8, cpus: u8, i: usize, s: Source, value: u64, call: Coo
 }
 
 // 0xa1 to 0xa6, by sysino.
-#[tactic(auto, unfolding(rules::specs::Sources::intr, plants::specs::Changes::done_by, plants::specs::Changes::plant_after, plants::specs::Changes::changed_by))]
+#[tactic(auto, using(plants::proofs::OutcomeLaws::outcomes), unfolding(rules::specs::Sources::intr))]
 pub fn intr(plant: Plant, call: SourceCall, sysino: u64, value: u64) -> Done
     requires { plant.sources ≤ source_limit }
     ensures { quietly plant result ≡ outcome_of plant (intr plant call sysino value) }
@@ -190,7 +190,7 @@ pub fn intr(plant: Plant, call: SourceCall, sysino: u64, value: u64) -> Done
 }
 
 // 0xa7 to 0xae, by devhandle and devino.
-#[tactic(auto, unfolding(rules::specs::Sources::vintr, crate::specs::Seen::named_as, plants::specs::Changes::done_by, plants::specs::Changes::plant_after, plants::specs::Changes::changed_by))]
+#[tactic(auto, using(plants::proofs::OutcomeLaws::outcomes), unfolding(rules::specs::Sources::vintr, crate::specs::Seen::named_as))]
 pub fn vintr(plant: Plant, call: CookieCall, devhandle: u64, devino: u64, value: u64) -> Done
     requires { plant.sources ≤ source_limit }
     ensures { quietly plant result ≡ outcome_of plant (vintr plant call devhandle devino value) }

@@ -79,7 +79,7 @@ fn negotiate(plant: Plant, group: Group, major: u8) -> Change
 }
 
 // A group's version is set. The minor is always 0.
-#[tactic(auto, unfolding(rules::specs::Versions::set_version, plants::specs::Changes::done_by, plants::specs::Changes::plant_after, plants::specs::Changes::changed_by))]
+#[tactic(auto, using(plants::proofs::OutcomeLaws::outcomes, plants::proofs::OutcomeLaws::change_done), unfolding(rules::specs::Versions::set_version))]
 pub fn set_version(plant: Plant, group: u64, major: u64) -> Done
     ensures { quietly plant result ≡ outcome_of plant (set_version plant group major) }
 {
