@@ -1,9 +1,9 @@
 -- From what each call gives to what the rule of its function says.
-use mathlib.Core.Path.{◌≡◌, refl, sym, ◌∙◌}
+use Rattle.std.proofs.Common.{Some, None, Ok, Err}
+use mathlib.Core.Path.{◌≡◌, refl, sym}
 use mathlib.Core.Bool.{true}
 use mathlib.Core.List.{List}
 use Prim.Native.Nat.{ℕ}
-use native.Mathlib.Omega.{arith}
 use lib.Dec.{leb, eqb}
 use Rattle.rules.specs.declared.Answer.TheVariants.{Refused}
 use Rattle.rules.specs.declared.Call.{Call}
@@ -14,10 +14,8 @@ use Rattle.rules.specs.declared.Refusal.{Refusal}
 use Rattle.rules.specs.declared.Refusal.TheVariants.{EBADTRAP, ENOTSUPPORTED}
 use Rattle.rules.specs.declared.Versions.{Versions}
 use Rattle.rules.specs.Real.{Sight}
-use Rattle.rules.specs.Rulings.{refused, granted, ◌or_refuse◌then◌}
+use Rattle.rules.specs.Rulings.{granted, ◌or_refuse◌then◌}
 use Rattle.rules.specs.Calls.{function_of, negotiated_as, negotiated_as_one, admitted, perform, call}
-use Rattle.records.specs.declared.Verdict.{Verdict}
-use Rattle.records.specs.declared.Verdict.TheVariants.{Right, Refused as Told}
 use Rattle.records.specs.Verdict.{verdict_of}
 use Rattle.records.proofs.Told.{told_refused, told_then}
 use Rattle.plants.specs.declared.change.Change.{Change}
@@ -26,24 +24,18 @@ use Rattle.plants.specs.Changes.{done_by}
 use Rattle.plants.specs.Follows.{Follows}
 use Rattle.plants.proofs.OutcomeLaws.{quiet_told}
 
--- a refusal is not right
-never_right : (r : Refusal) → verdict_of {A = Function} (refused r) ≡ Right → ⊥
-unfolding verdict_of
-never_right r e = let z : ◌≡◌ {A = ℕ} 0 1 = cc in omega arith
-
 -- a function that is admitted is granted as it is
-admitted_group : (major : ℕ) (f : Function) → verdict_of (negotiated_as major f) ≡ Right → negotiated_as major f ≡ granted f
+admitted_group : (major : ℕ) (f : Function) → verdict_of (negotiated_as major f) ≡ Ok tt → negotiated_as major f ≡ granted f
 admitted_group major f e = rw (told_then (leb 1 major) EBADTRAP (granted f) e)
 
-admitted_one : (major : ℕ) (f : Function) → verdict_of (negotiated_as_one major f) ≡ Right → negotiated_as_one major f ≡ granted f
+admitted_one : (major : ℕ) (f : Function) → verdict_of (negotiated_as_one major f) ≡ Ok tt → negotiated_as_one major f ≡ granted f
 admitted_one major f e =
     let a : leb 1 major ≡ true = told_then (leb 1 major) EBADTRAP (eqb major 1 or_refuse ENOTSUPPORTED then granted f) e in
     let b : eqb major 1 ≡ true = told_then (eqb major 1) ENOTSUPPORTED (granted f) (rw a at e) in
     rw (a, b)
 
-pub admitted_itself : (v : Versions) (f : Function) → verdict_of (admitted v f) ≡ Right → admitted v f ≡ granted f
+pub admitted_itself : (v : Versions) (f : Function) → verdict_of (admitted v (Some f)) ≡ Ok tt → admitted v (Some f) ≡ granted f
 unfolding admitted
-admitted_itself v Function.Unknown e = absurd (never_right _ e)
 admitted_itself v Function.SetVersion e = refl
 admitted_itself v Function.GetVersion e = refl
 admitted_itself v Function.CpuQconf e = admitted_group v.core Function.CpuQconf e
@@ -60,16 +52,17 @@ admitted_itself v Function.IntrDevino2sysino e = admitted_one v.interrupt Functi
 admitted_itself v (Function.Sysino call) e = admitted_one v.interrupt (Function.Sysino call) e
 admitted_itself v (Function.Cookie call) e = rw (told_then (eqb v.interrupt 2) EBADTRAP (granted (Function.Cookie call)) e)
 
--- the function that the code's match told
-pub perform_as : (extents : Extents) (plant : Plant) (s : Sight) (c : Call) (m after : List ℕ) (d : Done) (f g : Function) → f ≡ g → Follows extents plant (perform s plant c g) m d after → Follows extents plant (perform s plant c f) m d after
-perform_as extents plant s c m after d f g e p = rw e p
+-- a call of no function
+pub call_unknown : (extents : Extents) (plant : Plant) (s : Sight) (c : Call) (m : List ℕ) (d : Done) → None ≡ function_of c.trap c.function → d ≡ done_by (Refused EBADTRAP) Change.Nothing → Follows extents plant (call s plant c) m d m
+unfolding call admitted
+call_unknown extents plant s c m d p g = quiet_told extents plant (call s plant c) m d (Refused EBADTRAP) g (rw (← p))
 
--- a call whose function may not be called, and one whose function may: v is what the code was told of it
-module _ (extents : Extents) (plant : Plant) (s : Sight) (c : Call) (m : List ℕ) (d : Done) (f : Function) (v : Verdict) (p : f ≡ function_of c.trap c.function) (q : v ≡ verdict_of (admitted plant.versions f)) where
-  pub call_refused : (r : Refusal) → v ≡ Told r → d ≡ done_by (Refused r) Change.Nothing → Follows extents plant (call s plant c) m d m
+-- a call whose function may not be called, and one whose function may
+module _ (extents : Extents) (plant : Plant) (s : Sight) (c : Call) (m : List ℕ) (d : Done) (f : Function) (p : Some f ≡ function_of c.trap c.function) where
+  pub call_refused : (r : Refusal) → Err r ≡ verdict_of (admitted plant.versions (Some f)) → d ≡ done_by (Refused r) Change.Nothing → Follows extents plant (call s plant c) m d m
   unfolding call
-  call_refused r e g = quiet_told extents plant (call s plant c) m d (Refused r) g (rw (← p, told_refused (admitted plant.versions f) r (sym q ∙ e)))
+  call_refused r q g = quiet_told extents plant (call s plant c) m d (Refused r) g (rw (← p, told_refused (admitted plant.versions (Some f)) r (sym q)))
 
-  pub call_performed : (after : List ℕ) → v ≡ Right → Follows extents plant (perform s plant c f) m d after → Follows extents plant (call s plant c) m d after
+  pub call_performed : (after : List ℕ) → Ok tt ≡ verdict_of (admitted plant.versions (Some f)) → Follows extents plant (perform s plant c f) m d after → Follows extents plant (call s plant c) m d after
   unfolding call
-  call_performed after e g = rw (← p, admitted_itself plant.versions f (sym q ∙ e)) g
+  call_performed after q g = rw (← p, admitted_itself plant.versions f (sym q)) g

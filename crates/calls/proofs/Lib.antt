@@ -1,5 +1,3 @@
 pub mod DispatchLaws
-pub mod FunctionLaws
-pub mod OpenLaws
 pub mod OwnLaws
 pub mod PlantLaws

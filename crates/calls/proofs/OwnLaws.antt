@@ -1,11 +1,11 @@
 -- The cpu whose record an event looks at: it has a place in the plant's record, and is the event's own where the plant has that cpu.
-use Rattle.std.specs.Prelude.{if◌then◌else◌}
+use Rattle.std.specs.Prelude.{if◌then◌else◌, Option, Some, None}
 use mathlib.Core.Path.{◌≡◌, refl}
 use mathlib.Core.Bool.{Bool, true, false}
-use Prim.Native.Nat.{ℕ, ◌≤◌, ◌<◌}
+use Prim.Native.Nat.{ℕ, ◌<◌}
 use native.Mathlib.Omega.{arith}
 use lib.Dec.{ltb}
-use borrow.Author.Tests.{ltb-true, lt-ltb, le-ltb}
+use borrow.Author.Tests.{ltb-true, lt-ltb}
 use Rattle.rules.specs.declared.Call.{Call}
 use Rattle.rules.specs.declared.Cpu.{Cpu}
 use Rattle.rules.specs.declared.Device.{Device}
@@ -18,30 +18,13 @@ use Rattle.rules.specs.declared.TsbHit.{TsbHit}
 use Rattle.rules.specs.Kept.{cpu_at, source_at}
 use Rattle.rules.specs.Limits.{cpu_limit}
 use Rattle.records.specs.Sound.{Sound}
-use Rattle.sources.specs.declared.Named.{Named}
 use Rattle.sources.specs.Seen.{named_in}
 use Rattle.sources.proofs.SourceLaws.{named_there, named_source}
 use Rattle.calls.specs.Own.{cpu_below, target_of, cpu_of}
 
--- at each return of the code
-pub below_past : (c : ℕ) → cpu_limit ≤ c → 0 ≡ cpu_below c
-unfolding cpu_below
-below_past c h = rw (le-ltb c cpu_limit h)
-
 pub below_itself : (c : ℕ) → c < cpu_limit → c ≡ cpu_below c
 unfolding cpu_below
 below_itself c h = rw (lt-ltb c cpu_limit h)
-
-pub target_nobody : (n m : Named) → n ≡ m → n ≡ Named.Nothing → 0 ≡ target_of m
-unfolding target_of
-target_nobody n m p e = rw (← p, e)
-
-pub target_there : (n m : Named) → n ≡ m → (i : ℕ) (s : Source) → n ≡ Named.At i s → (r : ℕ) → r ≡ cpu_below s.target → r ≡ target_of m
-unfolding target_of
-target_there n m p i s e r q = rw (← p, e) q
-
-pub cpu_as : (plant : Plant) (e f : Event) (r : ℕ) → e ≡ f → r ≡ cpu_of plant f → r ≡ cpu_of plant e
-cpu_as plant e f r p q = rw p q
 
 -- the record that it names is there
 place_below : (c : ℕ) → cpu_below c < cpu_limit
@@ -52,10 +35,10 @@ place_below c = go (ltb c cpu_limit) refl
     go true e = ltb-true c cpu_limit e
     go false e = omega arith
 
-target_below : (n : Named) → target_of n < cpu_limit
+target_below : (n : Option (ℕ × Source)) → target_of n < cpu_limit
 unfolding target_of
-target_below Named.Nothing = omega arith
-target_below (Named.At i s) = place_below s.target
+target_below None = omega arith
+target_below (Some (i, s)) = place_below s.target
 
 pub cpu_below_lem : (plant : Plant) (event : Event) → cpu_of plant event < cpu_limit
 unfolding cpu_of
@@ -73,10 +56,6 @@ module _ (plant : Plant) (event : Event) (c : ℕ) (p : c ≡ cpu_of plant event
 
   pub own_taken : cpu_at plant c ≡ cpu_at plant (cpu_of plant event)
   own_taken = rw p
-
--- the record of the event that the code's match told
-pub own_as : (plant : Plant) (own : Cpu) (e f : Event) → e ≡ f → own ≡ cpu_at plant (cpu_of plant e) → own ≡ cpu_at plant (cpu_of plant f)
-own_as plant own e f p q = rw p at q
 
 -- own is the record of the event's own cpu
 module _ (extents : Extents) (plant : Plant) (n : ℕ) (s : Sound extents plant n) (own : Cpu) where
@@ -96,7 +75,7 @@ module _ (extents : Extents) (plant : Plant) (n : ℕ) (s : Sound extents plant 
   own_hit t h p = own_itself t.cpu h p
 
   -- a target is a cpuid of the guest
-  pub own_target : (d : Device) (found : Named) → found ≡ named_in plant d.devhandle d.devino → (i : ℕ) (source : Source) → found ≡ Named.At i source
+  pub own_target : (d : Device) (found : Option (ℕ × Source)) → found ≡ named_in plant d.devhandle d.devino → (i : ℕ) (source : Source) → found ≡ Some (i, source)
       → own ≡ cpu_at plant (cpu_of plant (Event.Raise d)) → own ≡ cpu_at plant source.target
   unfolding cpu_of target_of
   own_target d found p i source e q =

@@ -13,12 +13,12 @@ use mmu::{mmu_tsb_ctx0, mmu_tsb_ctxnon0, mmustat_conf, mmustat_info};
 use mondo::cpu_mondo_send;
 use plants::{Done, told};
 use queues::{cpu_myid, cpu_qconf, cpu_qinfo};
-use records::Verdict;
 use rules::{Answer, Call, Cpu, Extents, Function, Plant, Refusal};
 use sources::{intr, intr_devino2sysino, vintr};
 use versions::{get_version, set_version};
 use words::{mem_scrub, mem_sync};
 
+#[tactic(auto, using(plants::proofs::OutcomeLaws::quiet), unfolding(rules::specs::Calls::perform))]
 fn perform(extents: Extents, plant: Plant, own: Cpu, mem: &mut [u8], c: Call, f: Function) -> Done
     requires sound { Sound extents plant (length mem.old) }
     requires cpu_lt_cpus { c.cpu < plant.cpus }
@@ -28,35 +28,19 @@ fn perform(extents: Extents, plant: Plant, own: Cpu, mem: &mut [u8], c: Call, f:
 {
     let cpu = c.cpu as usize;
     match f {
-        Function::Unknown => told(Answer::Refused(Refusal::EBADTRAP)),
         Function::SetVersion => set_version(plant, c.arg0, c.arg1),
-        Function::GetVersion => {
-            let answer = get_version(plant, c.arg0);
-            told(answer)
-        }
+        Function::GetVersion => told(get_version(plant, c.arg0)),
         Function::CpuQconf => cpu_qconf(extents, plant, cpu, c.arg0, c.arg1, c.arg2),
-        Function::CpuQinfo => {
-            let answer = cpu_qinfo(own, c.arg0);
-            told(answer)
-        }
-        Function::CpuMyid => {
-            let answer = cpu_myid(cpu);
-            told(answer)
-        }
+        Function::CpuQinfo => told(cpu_qinfo(own, c.arg0)),
+        Function::CpuMyid => told(cpu_myid(cpu)),
         Function::CpuMondoSend => cpu_mondo_send(extents, plant, mem, cpu, c.arg0, c.arg1, c.arg2),
         Function::MmuTsbCtx0 => mmu_tsb_ctx0(extents, mem, cpu, c.arg0, c.arg1),
         Function::MmuTsbCtxnon0 => mmu_tsb_ctxnon0(extents, mem, cpu, c.arg0, c.arg1),
         Function::MemScrub => mem_scrub(extents, mem, c.arg0, c.arg1),
         Function::MemSync => mem_sync(extents, c.arg0, c.arg1),
         Function::MmustatConf => mmustat_conf(extents, own, cpu, c.arg0),
-        Function::MmustatInfo => {
-            let answer = mmustat_info(own);
-            told(answer)
-        }
-        Function::IntrDevino2sysino => {
-            let answer = intr_devino2sysino(plant, c.arg0, c.arg1);
-            told(answer)
-        }
+        Function::MmustatInfo => told(mmustat_info(own)),
+        Function::IntrDevino2sysino => told(intr_devino2sysino(plant, c.arg0, c.arg1)),
         Function::Sysino(asked) => intr(plant, asked, c.arg0, c.arg1),
         Function::Cookie(asked) => vintr(plant, asked, c.arg0, c.arg1, c.arg2),
     }
@@ -69,11 +53,11 @@ pub(crate) fn call(extents: Extents, plant: Plant, own: Cpu, mem: &mut [u8], c: 
     ensures { Follows extents plant (call (sight_of (present extents) mem.old) plant c)
         mem.old result mem.new }
 {
-    let f = function_of(c.trap, c.function);
-    let versions = plant.versions;
-    let verdict = admission(versions, f);
-    match verdict {
-        Verdict::Right => perform(extents, plant, own, mem, c, f),
-        Verdict::Refused(r) => told(Answer::Refused(r)),
+    let Some(f) = function_of(c.trap, c.function) else {
+        return told(Answer::Refused(Refusal::EBADTRAP));
+    };
+    match admission(plant.versions, f) {
+        Ok(()) => perform(extents, plant, own, mem, c, f),
+        Err(r) => told(Answer::Refused(r)),
     }
 }

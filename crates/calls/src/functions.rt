@@ -1,26 +1,27 @@
 // Which calls exist. The function number picks the group before any argument is read.
-ghost use Rattle.std.specs.Prelude.{◌≡◌, ◌≤◌};
+ghost use Rattle.std.specs.Prelude.{◌≡◌, ◌≤◌, Some};
 ghost use Rattle.rules.specs.Calls.{version_function, fast_function, function_of, admitted};
 ghost use Rattle.records.specs.Verdict.{verdict_of};
 ghost use Rattle.calls.specs.Open.{group_open, sysino_open, cookie_open};
 
-use records::Verdict;
 use rules::{CookieCall, Function, Refusal, SourceCall, Versions};
 
-fn version_function(function: u64) -> Function
+#[tactic(auto, unfolding(rules::specs::Calls::version_function))]
+fn version_function(function: u64) -> Option<Function>
     ensures { result ≡ version_function function }
 {
     match function {
-        0 => Function::SetVersion,
-        3 => Function::GetVersion,
-        _ => Function::Unknown,
+        0 => Some(Function::SetVersion),
+        3 => Some(Function::GetVersion),
+        _ => None,
     }
 }
 
 // 0xa0 to 0xa6.
+#[tactic(auto, unfolding(rules::specs::Calls::fast_function))]
 fn sysino_function(function: u64) -> Function
     requires { (0xa0 ≤ function) × (function ≤ 0xa6) }
-    ensures { result ≡ fast_function function }
+    ensures { Some result ≡ fast_function function }
 {
     match function {
         0xa0 => Function::IntrDevino2sysino,
@@ -34,9 +35,10 @@ fn sysino_function(function: u64) -> Function
 }
 
 // 0xa7 to 0xae.
+#[tactic(auto, unfolding(rules::specs::Calls::fast_function))]
 fn cookie_function(function: u64) -> Function
     requires { (0xa7 ≤ function) × (function ≤ 0xae) }
-    ensures { result ≡ fast_function function }
+    ensures { Some result ≡ fast_function function }
 {
     match function {
         0xa7 => Function::Cookie(CookieCall::GetCookie),
@@ -50,89 +52,91 @@ fn cookie_function(function: u64) -> Function
     }
 }
 
-fn fast_function(function: u64) -> Function
+#[tactic(auto, unfolding(rules::specs::Calls::fast_function))]
+fn fast_function(function: u64) -> Option<Function>
     ensures { result ≡ fast_function function }
 {
     match function {
-        0x14 => Function::CpuQconf,
-        0x15 => Function::CpuQinfo,
-        0x16 => Function::CpuMyid,
-        0x20 => Function::MmuTsbCtx0,
-        0x21 => Function::MmuTsbCtxnon0,
-        0x31 => Function::MemScrub,
-        0x32 => Function::MemSync,
-        0x42 => Function::CpuMondoSend,
-        0xa0..=0xa6 => sysino_function(function),
-        0xa7..=0xae => cookie_function(function),
-        0x102 => Function::MmustatConf,
-        0x103 => Function::MmustatInfo,
-        _ => Function::Unknown,
+        0x14 => Some(Function::CpuQconf),
+        0x15 => Some(Function::CpuQinfo),
+        0x16 => Some(Function::CpuMyid),
+        0x20 => Some(Function::MmuTsbCtx0),
+        0x21 => Some(Function::MmuTsbCtxnon0),
+        0x31 => Some(Function::MemScrub),
+        0x32 => Some(Function::MemSync),
+        0x42 => Some(Function::CpuMondoSend),
+        0xa0..=0xa6 => Some(sysino_function(function)),
+        0xa7..=0xae => Some(cookie_function(function)),
+        0x102 => Some(Function::MmustatConf),
+        0x103 => Some(Function::MmustatInfo),
+        _ => None,
     }
 }
 
-pub(crate) fn function_of(trap: u64, function: u64) -> Function
+#[tactic(auto, unfolding(rules::specs::Calls::function_of))]
+pub(crate) fn function_of(trap: u64, function: u64) -> Option<Function>
     ensures { result ≡ function_of trap function }
 {
     match trap {
         0xff => version_function(function),
         0x80 => fast_function(function),
-        _ => Function::Unknown,
+        _ => None,
     }
 }
 
 // A group at any version.
-fn group_open(major: u8) -> Verdict
+#[tactic(auto, unfolding(crate::specs::Open::group_open))]
+fn group_open(major: u8) -> Result<(), Refusal>
     ensures { result ≡ group_open major }
 {
     if major < 1 {
-        return Verdict::Refused(Refusal::EBADTRAP);
+        return Err(Refusal::EBADTRAP);
     }
-    Verdict::Right
+    Ok(())
 }
 
 // Group 2 at 1.0, for 0xa0 to 0xa6. Under 2.0 they are there no more.
-fn sysino_open(major: u8) -> Verdict
+#[tactic(auto, unfolding(crate::specs::Open::sysino_open))]
+fn sysino_open(major: u8) -> Result<(), Refusal>
     ensures { result ≡ sysino_open major }
 {
     if major < 1 {
-        return Verdict::Refused(Refusal::EBADTRAP);
+        return Err(Refusal::EBADTRAP);
     }
     if major != 1 {
-        return Verdict::Refused(Refusal::ENOTSUPPORTED);
+        return Err(Refusal::ENOTSUPPORTED);
     }
-    Verdict::Right
+    Ok(())
 }
 
 // Group 2 at 2.0, for 0xa7 to 0xae.
-fn cookie_open(major: u8) -> Verdict
+#[tactic(auto, unfolding(crate::specs::Open::cookie_open))]
+fn cookie_open(major: u8) -> Result<(), Refusal>
     ensures { result ≡ cookie_open major }
 {
     if major != 2 {
-        return Verdict::Refused(Refusal::EBADTRAP);
+        return Err(Refusal::EBADTRAP);
     }
-    Verdict::Right
+    Ok(())
 }
 
 // Whether a function may be called under the negotiated versions. No argument of the call is looked at.
-pub(crate) fn admission(v: Versions, f: Function) -> Verdict
-    ensures { result ≡ verdict_of (admitted v f) }
+#[tactic(auto, unfolding(rules::specs::Calls::admitted, records::specs::Verdict::verdict_of, crate::specs::Open::group_open, crate::specs::Open::sysino_open, crate::specs::Open::cookie_open))]
+pub(crate) fn admission(v: Versions, f: Function) -> Result<(), Refusal>
+    ensures { result ≡ verdict_of (admitted v (Some f)) }
 {
     match f {
-        Function::Unknown => Verdict::Refused(Refusal::EBADTRAP),
-        Function::SetVersion => Verdict::Right,
-        Function::GetVersion => Verdict::Right,
-        Function::CpuQconf => group_open(v.core),
-        Function::CpuQinfo => group_open(v.core),
-        Function::CpuMyid => group_open(v.core),
-        Function::CpuMondoSend => group_open(v.core),
-        Function::MmuTsbCtx0 => group_open(v.core),
-        Function::MmuTsbCtxnon0 => group_open(v.core),
-        Function::MemScrub => group_open(v.core),
-        Function::MemSync => group_open(v.core),
-        Function::MmustatConf => group_open(v.statistics),
-        Function::MmustatInfo => group_open(v.statistics),
-        Function::IntrDevino2sysino => sysino_open(v.interrupt),
-        Function::Sysino(_) => sysino_open(v.interrupt),
+        Function::SetVersion | Function::GetVersion => Ok(()),
+        Function::CpuQconf
+        | Function::CpuQinfo
+        | Function::CpuMyid
+        | Function::CpuMondoSend
+        | Function::MmuTsbCtx0
+        | Function::MmuTsbCtxnon0
+        | Function::MemScrub
+        | Function::MemSync => group_open(v.core),
+        Function::MmustatConf | Function::MmustatInfo => group_open(v.statistics),
+        Function::IntrDevino2sysino | Function::Sysino(_) => sysino_open(v.interrupt),
         Function::Cookie(_) => cookie_open(v.interrupt),
     }
 }

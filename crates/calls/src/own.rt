@@ -6,29 +6,28 @@ ghost use Rattle.sources.specs.Seen.{named_in};
 ghost use Rattle.calls.specs.Own.{cpu_below, target_of, cpu_of};
 
 use rules::{CPUS, Device, Event, Plant};
-use sources::{Named, source_named};
+use sources::source_named;
 
+#[tactic(auto, unfolding(crate::specs::Own::cpu_below))]
 fn below(cpu: u64) -> usize
     ensures { result ≡ cpu_below cpu }
 {
-    if CPUS as u64 <= cpu {
-        return 0;
-    }
-    cpu as usize
+    if cpu < CPUS as u64 { cpu as usize } else { 0 }
 }
 
+#[tactic(auto, unfolding(crate::specs::Own::target_of))]
 fn target_of(plant: Plant, d: Device) -> usize
     requires { plant.sources ≤ source_limit }
     ensures { result ≡ target_of (named_in plant d.devhandle d.devino) }
 {
-    let found = source_named(plant, d.devhandle, d.devino);
-    match found {
-        Named::Nothing => 0,
-        Named::At(_, s) => below(s.target as u64),
+    match source_named(plant, d.devhandle, d.devino) {
+        None => 0,
+        Some((_, s)) => below(u64::from(s.target)),
     }
 }
 
 // 0 where the event names no cpu below CPUS and no source.
+#[tactic(auto, unfolding(crate::specs::Own::cpu_of))]
 pub fn cpu_of(plant: Plant, event: Event) -> usize
     requires { plant.sources ≤ source_limit }
     ensures { result ≡ cpu_of plant event }
@@ -37,8 +36,7 @@ pub fn cpu_of(plant: Plant, event: Event) -> usize
         Event::Call(c) => below(c.cpu),
         Event::Head(h) => below(h.cpu),
         Event::Raise(d) => target_of(plant, d),
-        Event::Load(_) => 0,
-        Event::Store(_) => 0,
+        Event::Load(_) | Event::Store(_) => 0,
         Event::Hit(t) => below(t.cpu),
     }
 }

@@ -14,28 +14,30 @@ use plants::{Done, told};
 use queues::write_head;
 use raise::raise_at;
 use rules::{Answer, Call, Cpu, Device, Event, Extents, HeadWrite, Plant, Refusal, TsbHit};
-use sources::{Named, source_named};
+use sources::source_named;
 use words::{load_word, store_word};
 
+#[tactic(auto, using(crate::proofs::OwnLaws::own_call), unfolding(rules::specs::Host::plant_rule))]
 fn plant_call(extents: Extents, plant: Plant, own: Cpu, mem: &mut [u8], c: Call) -> Done
     requires sound { Sound extents plant (length mem.old) }
     requires own_value { own ≡ cpu_at plant (cpu_of plant (Event.Call c)) }
     ensures { Follows extents plant (plant_rule (sight_of (present extents) mem.old) plant (Event.Call c))
         mem.old result mem.new }
 {
-    if plant.cpus as u64 <= c.cpu {
+    if u64::from(plant.cpus) <= c.cpu {
         return told(Answer::Refused(Refusal::NoCaller));
     }
     call(extents, plant, own, mem, c)
 }
 
+#[tactic(auto, using(crate::proofs::OwnLaws::own_head, plants::proofs::OutcomeLaws::quiet), unfolding(rules::specs::Host::plant_rule))]
 fn plant_head(extents: Extents, plant: Plant, own: Cpu, mem: &[u8], h: HeadWrite) -> Done
     requires sound { Sound extents plant (length mem.now) }
     requires own_value { own ≡ cpu_at plant (cpu_of plant (Event.Head h)) }
     ensures { Follows extents plant (plant_rule (sight_of (present extents) mem.now) plant (Event.Head h))
         mem.now result mem.now }
 {
-    if plant.cpus as u64 <= h.cpu {
+    if u64::from(plant.cpus) <= h.cpu {
         return told(Answer::Refused(Refusal::NoCaller));
     }
     write_head(own, h.cpu as usize, h.queue, h.value)
@@ -47,26 +49,27 @@ fn plant_raise(extents: Extents, plant: Plant, own: Cpu, mem: &mut [u8], d: Devi
     ensures { Follows extents plant (plant_rule (sight_of (present extents) mem.old) plant (Event.Raise d))
         mem.old result mem.new }
 {
-    let found = source_named(plant, d.devhandle, d.devino);
-    match found {
-        Named::Nothing => told(Answer::Refused(Refusal::NoSource)),
-        Named::At(i, source) => raise_at(extents, plant, own, mem, i, source),
+    match source_named(plant, d.devhandle, d.devino) {
+        None => told(Answer::Refused(Refusal::NoSource)),
+        Some((i, source)) => raise_at(extents, plant, own, mem, i, source),
     }
 }
 
+#[tactic(auto, using(crate::proofs::OwnLaws::own_hit), unfolding(rules::specs::Host::plant_rule))]
 fn plant_hit(extents: Extents, plant: Plant, own: Cpu, mem: &mut [u8], t: TsbHit) -> Done
     requires sound { Sound extents plant (length mem.old) }
     requires own_value { own ≡ cpu_at plant (cpu_of plant (Event.Hit t)) }
     ensures { Follows extents plant (plant_rule (sight_of (present extents) mem.old) plant (Event.Hit t))
         mem.old result mem.new }
 {
-    if plant.cpus as u64 <= t.cpu {
+    if u64::from(plant.cpus) <= t.cpu {
         return told(Answer::Refused(Refusal::NoCaller));
     }
     tsb_hit(extents, own, mem, t.side, t.context, t.index, t.ticks)
 }
 
 // own is the record of the cpu that the event looks at.
+#[tactic(auto, unfolding(rules::specs::Host::plant_rule))]
 pub fn plant_event(extents: Extents, plant: Plant, own: Cpu, mem: &mut [u8], event: Event) -> Done
     requires sound { Sound extents plant (length mem.old) }
     requires own_value { own ≡ cpu_at plant (cpu_of plant event) }

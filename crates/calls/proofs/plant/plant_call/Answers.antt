@@ -1,14 +1,10 @@
--- `calls::plant::plant_call` meets its contract.
-use Rattle.calls.proofs.OwnLaws.{own_call}
-use Rattle.calls.proofs.PlantLaws.{call_nobody, call_cpu}
-use borrow.Author.Rules.{rules}
+-- `calls::plant::plant_call` meets its contract: a caller that is not there is told so.
+use Rattle.std.proofs.Common.{arith}
+use Rattle.std.proofs.lemmas.Grind.{common_steps}
+use Rattle.rules.specs.Host.{plant_rule}
+use Rattle.plants.proofs.OutcomeLaws.{quiet_told}
 use Rattle.calls.proofs.plant.plant_call.Goals as goal
 
-pub returns-then-plant-c : goal.returns-then-plant-c
-returns-then-plant-c c = call_nobody _ _ _ _ _ _ c.if-plant-c.true c.told.ensures
-
-pub call-requires : goal.call-requires
-call-requires c = record { sound = search rules; cpu_lt_cpus = search rules; own_value = search own_call }
-
-pub returns : goal.returns
-returns c = call_cpu _ _ _ _ _ _ _ c.if-plant-c.false c.call.ensures
+pub returns-then-from-c : goal.returns-then-from-c
+unfolding plant_rule
+returns-then-from-c c = quiet_told _ _ _ _ _ _ c.told.ensures (grind (arith, common_steps))

@@ -1,16 +1,17 @@
--- `calls::plant::plant_hit` meets its contract.
-use mathlib.Core.Path.{sym}
+-- `calls::plant::plant_hit` meets its contract: a caller that is not there is told so.
+use Rattle.std.proofs.Common.{arith, ◌<◌}
+use Rattle.std.proofs.lemmas.Grind.{common_steps}
+use Rattle.rules.specs.Host.{plant_rule}
+use Rattle.plants.proofs.OutcomeLaws.{quiet_told}
 use Rattle.calls.proofs.OwnLaws.{own_hit}
-use Rattle.calls.proofs.PlantLaws.{hit_buffer, hit_nobody, hit_cpu}
+use Rattle.calls.proofs.PlantLaws.{hit_buffer}
 use Rattle.calls.proofs.plant.plant_hit.Goals as goal
 
-pub returns-then-plant-t : goal.returns-then-plant-t
-returns-then-plant-t c = hit_nobody _ _ _ _ _ _ c.if-plant-t.true c.told.ensures
+pub returns-then-from-t : goal.returns-then-from-t
+unfolding plant_rule
+returns-then-from-t c = quiet_told _ _ _ _ _ _ c.told.ensures (grind (arith, common_steps))
 
-pub tsb_hit-requires : goal.tsb_hit-requires
-tsb_hit-requires c =
-    record { extents_le_extent_limit = c.requires.sound.few; ready = c.requires.sound.ready; buffer_sound = hit_buffer _ _ _ _ _ c.requires.sound c.if-plant-t.false (own_hit _ _ _ c.requires.sound _ _ c.if-plant-t.false c.requires.own_value) }
-
-pub returns : goal.returns
-returns c =
-    hit_cpu _ _ _ _ _ _ _ c.if-plant-t.false (c.tsb_hit.ensures _ _ (sym (own_hit _ _ _ c.requires.sound _ _ c.if-plant-t.false c.requires.own_value)))
+pub tsb_hit-requires-clause-buffer_sound : goal.tsb_hit-requires-clause-buffer_sound
+tsb_hit-requires-clause-buffer_sound c =
+    let there : c.args.t.cpu < c.args.plant.cpus = omega arith in
+    hit_buffer _ _ _ _ _ c.requires.sound there (own_hit _ _ _ c.requires.sound _ _ there c.requires.own_value)
