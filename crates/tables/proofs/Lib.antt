@@ -1,4 +1,3 @@
-pub mod Every
-pub mod SettingLaws
+pub mod Parts
+pub mod Equal
 pub mod SoundTables
-pub mod KeepLaws

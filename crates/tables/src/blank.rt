@@ -1,137 +1,76 @@
-// "The records of absent guests, cpus, extents, sources and list places stay so": unset, disabled, idle and 0. In tables that
-// hold, every record that is tested here is blank, so a test that looks at all of it, with no early return, loses nothing.
-ghost use Rattle.std.specs.Prelude.{◌≡◌};
-ghost use Rattle.rules.specs.Tables.{extent_blank, record_blank, tsb_blank, tsbs_blank, cpu_blank};
-ghost use Rattle.rules.specs.Tables.{source_blank, versions_blank, extents_blank, plant_blank, guest_blank};
-ghost use Rattle.tables.specs.Lists.{queues_blank, cpus_blank, sources_blank};
+// "The records of absent guests, cpus, extents, sources and list places stay so": as they are after loading.
+ghost use Rattle.std.specs.Prelude.{◌≡◌, get_or};
+ghost use Rattle.rules.specs.Limits.{cpu_limit, source_limit};
+ghost use Rattle.rules.specs.Scan.{all_below};
+ghost use Rattle.rules.specs.Kept.{hollow_cpu, blank_source};
+ghost use Rattle.rules.specs.Tables.{extent_blank, tsb_blank, cpu_blank, source_blank, extents_blank, plant_blank, guest_blank};
 
-use rules::{
-    CPUS, Cpu, EXTENTS, Extent, Extents, Guest, Plant, QUEUES, Queue, QueueRecord, SOURCES, Source,
-    TSBS, Tsb, Tsbs, Versions,
-};
+use records::blank;
+use rules::{CPUS, Cpu, Extent, Extents, Guest, Plant, SOURCES, Source, Tsb};
 
+#[tactic(auto, unfolding(rules::specs::Tables::extent_blank))]
 pub(crate) fn extent_blank(x: Extent) -> bool
     ensures { result ≡ extent_blank x }
 {
-    (x.real == 0) & ((x.count == 0) & (x.host == 0))
+    x == blank::extent()
 }
 
-fn extents_blank(e: Extents) -> bool
-    ensures { result ≡ extents_blank e }
-{
-    let list = e.extent;
-    let mut blank = e.extents == 0;
-    let mut i = 0;
-    while i < EXTENTS {
-        blank = blank & extent_blank(list[i]);
-        i += 1;
-    }
-    blank
-}
-
-fn record_blank(held: QueueRecord) -> bool
-    ensures { result ≡ record_blank held }
-{
-    match held {
-        QueueRecord::Unset => true,
-        QueueRecord::Set(_) => false,
-    }
-}
-
-fn queues_blank(queues: [Queue; QUEUES]) -> bool
-    ensures { result ≡ queues_blank queues }
-{
-    let mut blank = true;
-    let mut i = 0;
-    while i < QUEUES {
-        let queue = queues[i];
-        let held = queue.held;
-        blank = blank & record_blank(held);
-        i += 1;
-    }
-    blank
-}
-
+#[tactic(auto, unfolding(rules::specs::Tables::tsb_blank))]
 pub(crate) fn tsb_blank(t: Tsb) -> bool
     ensures { result ≡ tsb_blank t }
 {
-    ((t.index == 0) & ((t.associativity == 0) & (t.entries == 0)))
-        & ((t.context == 0) & ((t.mask == 0) & (t.base == 0)))
-}
-
-fn tsbs_blank(tsbs: Tsbs) -> bool
-    ensures { result ≡ tsbs_blank tsbs }
-{
-    let list = tsbs.tsb;
-    let mut blank = tsbs.tsbs == 0;
-    let mut i = 0;
-    while i < TSBS {
-        blank = blank & tsb_blank(list[i]);
-        i += 1;
-    }
-    blank
+    t == blank::tsb()
 }
 
 pub(crate) fn cpu_blank(cpu: Cpu) -> bool
     ensures { result ≡ cpu_blank cpu }
 {
-    let queues = cpu.queue;
-    let ctx0 = cpu.ctx0;
-    let ctxnon0 = cpu.ctxnon0;
-    queues_blank(queues) & (tsbs_blank(ctx0) & (tsbs_blank(ctxnon0) & (cpu.statistics == 0)))
+    cpu == blank::cpu()
 }
 
-fn cpus_blank(cpu: [Cpu; CPUS]) -> bool
-    ensures { result ≡ cpus_blank cpu }
-{
-    let mut blank = true;
-    let mut i = 0;
-    while i < CPUS {
-        blank = blank & cpu_blank(cpu[i]);
-        i += 1;
-    }
-    blank
-}
-
+#[tactic(auto, unfolding(rules::specs::Tables::source_blank))]
 pub(crate) fn source_blank(s: Source) -> bool
     ensures { result ≡ source_blank s }
 {
-    ((s.devhandle == 0) & ((s.devino == 0) & !s.cookies))
-        & (((s.enabled == 0) & (s.state == 0)) & ((s.target == 0) & (s.cookie == 0)))
+    s == blank::source()
+}
+
+fn extents_blank(e: Extents) -> bool
+    ensures { result ≡ extents_blank e }
+{
+    e == Extents {
+        extents: 0,
+        extent: blank::extents(),
+    }
+}
+
+// One by one, and not `cpu == blank::cpus()`: the proof has the lengths of a cpu's own lists only where it has that cpu alone.
+fn cpus_blank(cpu: [Cpu; CPUS]) -> bool
+    ensures { result ≡ all_below cpu_limit (λ c. cpu_blank (get_or cpu c hollow_cpu)) }
+{
+    cpu.iter().all(|cpu| cpu_blank(*cpu))
 }
 
 fn sources_blank(source: [Source; SOURCES]) -> bool
-    ensures { result ≡ sources_blank source }
+    ensures { result ≡ all_below source_limit (λ i. source_blank (get_or source i blank_source)) }
 {
-    let mut blank = true;
-    let mut i = 0;
-    while i < SOURCES {
-        blank = blank & source_blank(source[i]);
-        i += 1;
-    }
-    blank
+    source == blank::sources()
 }
 
-fn versions_blank(v: Versions) -> bool
-    ensures { result ≡ versions_blank v }
-{
-    ((v.sun4v == 0) & (v.core == 0)) & ((v.interrupt == 0) & (v.statistics == 0))
-}
-
+#[tactic(auto, unfolding(rules::specs::Tables::versions_blank, rules::specs::Tables::plant_blank))]
 fn plant_blank(plant: Plant) -> bool
     ensures { result ≡ plant_blank plant }
 {
-    let versions = plant.versions;
-    let cpu = plant.cpu;
-    let source = plant.source;
-    (versions_blank(versions) & ((plant.cpus == 0) & (plant.sources == 0)))
-        & (cpus_blank(cpu) & sources_blank(source))
+    plant.versions == blank::versions()
+        && plant.cpus == 0
+        && plant.sources == 0
+        && cpus_blank(plant.cpu)
+        && sources_blank(plant.source)
 }
 
+#[tactic(auto, unfolding(rules::specs::Tables::guest_blank))]
 pub(crate) fn guest_blank(guest: Guest) -> bool
     ensures { result ≡ guest_blank guest }
 {
-    let extents = guest.extents;
-    let plant = guest.plant;
-    extents_blank(extents) & plant_blank(plant)
+    extents_blank(guest.extents) && plant_blank(guest.plant)
 }

@@ -1,53 +1,33 @@
 // The rule on tables (101): every guest that is there keeps it, and every place behind is blank.
 ghost use Rattle.std.specs.Prelude.{◌≡◌};
-ghost use Rattle.rules.specs.Tables.{guest_keeps, keep_rules};
-ghost use Rattle.tables.specs.Lists.{guest_place_keeps, guests_keep};
+ghost use Rattle.rules.specs.Limits.{guest_limit};
+ghost use Rattle.rules.specs.Kept.{guest_at};
+ghost use Rattle.rules.specs.Tables.{list_right, guest_keeps, guest_blank, keep_rules};
 
 use crate::blank::guest_blank;
+use crate::lists::list_right;
 use crate::right::extents_keep;
 use crate::settings::plant_keeps;
 use partition::{pages_shared, source_twice};
-use rules::{GUESTS, Guest, Tables};
+use rules::{Guest, Tables};
 
 // The extents first: the other rules of a guest speak of what is valid through them.
+#[tactic(auto, using(crate::proofs::SoundTables::extents_few), unfolding(rules::specs::Tables::guest_keeps))]
 fn guest_keeps(guest: Guest) -> bool
     ensures { result ≡ guest_keeps guest }
 {
-    let extents = guest.extents;
-    if !extents_keep(extents) {
-        return false;
-    }
-    let plant = guest.plant;
-    plant_keeps(extents, plant)
+    extents_keep(guest.extents) && plant_keeps(guest.extents, guest.plant)
 }
 
-fn guest_place_keeps(there: bool, guest: Guest) -> bool
-    ensures { result ≡ guest_place_keeps there guest }
+fn guests_right(tables: Tables) -> bool
+    ensures { result ≡ list_right guest_limit tables.guests (λ g. guest_keeps (guest_at tables g)) (λ g. guest_blank (guest_at tables g)) }
 {
-    if there {
-        guest_keeps(guest)
-    } else {
-        guest_blank(guest)
-    }
+    list_right(&tables.guest, tables.guests, guest_keeps, guest_blank)
 }
 
-// The places for guests, of which there are `guests`.
-fn guests_keep(guests: u8, guest: [Guest; GUESTS]) -> bool
-    ensures { result ≡ guests_keep guests guest }
-{
-    let count = guests as usize;
-    let mut keep = count <= GUESTS;
-    let mut i = 0;
-    while i < GUESTS {
-        keep = keep & guest_place_keeps(i < count, guest[i]);
-        i += 1;
-    }
-    keep
-}
-
+#[tactic(auto, unfolding(rules::specs::Tables::keep_rules))]
 pub fn keep_rules(tables: Tables) -> bool
     ensures { result ≡ keep_rules tables }
 {
-    let guest = tables.guest;
-    guests_keep(tables.guests, guest) & (!pages_shared(tables) & !source_twice(tables))
+    guests_right(tables) && !pages_shared(tables) && !source_twice(tables)
 }

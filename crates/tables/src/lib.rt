@@ -4,6 +4,7 @@
 mod blank;
 mod keep;
 mod lent;
+mod lists;
 mod right;
 mod settings;
 

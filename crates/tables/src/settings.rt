@@ -1,17 +1,17 @@
 // What a guest configured: each record unset or as its call would accept it.
-ghost use Rattle.std.specs.Prelude.{◌≡◌, ◌≤◌};
-ghost use Rattle.rules.specs.Limits.{extent_limit};
+ghost use Rattle.std.specs.Prelude.{◌≡◌, ◌≤◌, get_or};
+ghost use Rattle.rules.specs.Limits.{extent_limit, queue_limit, cpu_limit, source_limit};
+ghost use Rattle.rules.specs.Scan.{all_below};
+ghost use Rattle.rules.specs.Kept.{blank_queue, cpu_at, source_at};
 ghost use Rattle.rules.specs.Real.{valid};
-ghost use Rattle.rules.specs.Tables.{place_right, ring_right, record_right, tsbs_right, cpu_right, plant_keeps};
+ghost use Rattle.rules.specs.Tables.{list_right, place_right, ring_right, record_right, tsbs_right, cpu_right, cpu_blank, source_right, source_blank, plant_keeps};
 ghost use Rattle.memory.specs.Ready.{present};
-ghost use Rattle.tables.specs.Lists.{queues_right, tsb_keeps, cpu_keeps, cpus_keep, source_keeps, sources_keep};
 
 use crate::blank::{cpu_blank, source_blank, tsb_blank};
+use crate::lists::list_right;
 use crate::right::{source_right, versions_right};
 use records::{judge_ring, judge_statistics, judge_tsb};
-use rules::{
-    CPUS, Cpu, Extents, Plant, QUEUES, Queue, QueueRecord, Ring, SOURCES, Source, TSBS, Tsb, Tsbs,
-};
+use rules::{Cpu, Extents, Plant, QUEUES, Queue, QueueRecord, Ring, Tsbs};
 
 // A head or tail: a multiple of 64 below the ring's size.
 #[tactic(auto, unfolding(rules::specs::Tables::place_right))]
@@ -27,7 +27,7 @@ fn ring_right(e: Extents, ring: Ring) -> bool
     ensures { result ≡ ring_right (valid (present e)) ring }
 {
     ring.size % 64 == 0
-        && judge_ring(e, ring.base, (ring.size / 64) as u64).is_ok()
+        && judge_ring(e, ring.base, u64::from(ring.size / 64)).is_ok()
         && place_right(ring.size, ring.head)
         && place_right(ring.size, ring.tail)
 }
@@ -45,118 +45,56 @@ fn record_right(e: Extents, held: QueueRecord) -> bool
 // The four queue records of a cpu.
 fn queues_right(e: Extents, queues: [Queue; QUEUES]) -> bool
     requires { e.extents ≤ extent_limit }
-    ensures { result ≡ queues_right (valid (present e)) queues }
+    ensures { result ≡ all_below queue_limit (λ q. record_right (valid (present e)) (get_or queues q blank_queue).held) }
 {
-    let mut right = true;
-    let mut i = 0;
-    while i < QUEUES {
-        let queue = queues[i];
-        let held = queue.held;
-        right = right & record_right(e, held);
-        i += 1;
-    }
-    right
-}
-
-// A place of a TSB list: a descriptor that is there is right, and any other is blank.
-#[tactic(auto, using(records::proofs::Told::accepts_is), unfolding(crate::specs::Lists::tsb_keeps))]
-fn tsb_keeps(e: Extents, there: bool, t: Tsb) -> bool
-    requires { e.extents ≤ extent_limit }
-    ensures { result ≡ tsb_keeps (valid (present e)) there t }
-{
-    if there {
-        judge_tsb(e, t).is_ok()
-    } else {
-        tsb_blank(t)
-    }
+    queues.iter().all(|queue| record_right(e, queue.held))
 }
 
 fn tsbs_right(e: Extents, tsbs: Tsbs) -> bool
     requires { e.extents ≤ extent_limit }
     ensures { result ≡ tsbs_right (valid (present e)) tsbs }
 {
-    let count = tsbs.tsbs as usize;
-    let list = tsbs.tsb;
-    let mut keep = count <= TSBS;
-    let mut i = 0;
-    while i < TSBS {
-        keep = keep & tsb_keeps(e, i < count, list[i]);
-        i += 1;
-    }
-    keep
+    list_right(&tsbs.tsb, tsbs.tsbs, |t| judge_tsb(e, t).is_ok(), tsb_blank)
 }
 
-#[tactic(auto, using(records::proofs::Told::accepts_is), unfolding(rules::specs::Tables::cpu_right, crate::specs::Lists::queues_right))]
+#[tactic(auto, using(records::proofs::Told::accepts_is), unfolding(rules::specs::Tables::cpu_right))]
 fn cpu_right(e: Extents, cpu: Cpu) -> bool
     requires { e.extents ≤ extent_limit }
     ensures { result ≡ cpu_right (valid (present e)) cpu }
 {
-    let queues = cpu.queue;
-    let ctx0 = cpu.ctx0;
-    let ctxnon0 = cpu.ctxnon0;
-    queues_right(e, queues)
-        & (tsbs_right(e, ctx0)
-            & (tsbs_right(e, ctxnon0) & judge_statistics(e, cpu.statistics).is_ok()))
+    queues_right(e, cpu.queue)
+        && tsbs_right(e, cpu.ctx0)
+        && tsbs_right(e, cpu.ctxnon0)
+        && judge_statistics(e, cpu.statistics).is_ok()
 }
 
-fn cpu_keeps(e: Extents, there: bool, cpu: Cpu) -> bool
+fn cpus_right(e: Extents, plant: Plant) -> bool
     requires { e.extents ≤ extent_limit }
-    ensures { result ≡ cpu_keeps (valid (present e)) there cpu }
+    ensures { result ≡ list_right cpu_limit plant.cpus (λ c. cpu_right (valid (present e)) (cpu_at plant c)) (λ c. cpu_blank (cpu_at plant c)) }
 {
-    if there {
-        cpu_right(e, cpu)
-    } else {
-        cpu_blank(cpu)
-    }
+    list_right(&plant.cpu, plant.cpus, |cpu| cpu_right(e, cpu), cpu_blank)
 }
 
-// The places for cpus, of which there are `cpus`.
-fn cpus_keep(e: Extents, cpus: u8, cpu: [Cpu; CPUS]) -> bool
-    requires { e.extents ≤ extent_limit }
-    ensures { result ≡ cpus_keep (valid (present e)) cpus cpu }
+fn sources_right(plant: Plant) -> bool
+    ensures { result ≡ list_right source_limit plant.sources (λ i. source_right plant (source_at plant i)) (λ i. source_blank (source_at plant i)) }
 {
-    let count = cpus as usize;
-    let mut keep = count <= CPUS;
-    let mut i = 0;
-    while i < CPUS {
-        keep = keep & cpu_keeps(e, i < count, cpu[i]);
-        i += 1;
-    }
-    keep
+    let cpus = plant.cpus;
+    let major = plant.versions.interrupt;
+    list_right(
+        &plant.source,
+        plant.sources,
+        |s| source_right(cpus, major, s),
+        source_blank,
+    )
 }
 
-fn source_keeps(cpus: u8, major: u8, there: bool, s: Source) -> bool
-    ensures { result ≡ source_keeps cpus major there s }
-{
-    if there {
-        source_right(cpus, major, s)
-    } else {
-        source_blank(s)
-    }
-}
-
-// The places for sources, of which there are `sources`.
-fn sources_keep(cpus: u8, major: u8, sources: u8, source: [Source; SOURCES]) -> bool
-    ensures { result ≡ sources_keep cpus major sources source }
-{
-    let count = sources as usize;
-    let mut keep = count <= SOURCES;
-    let mut i = 0;
-    while i < SOURCES {
-        keep = keep & source_keeps(cpus, major, i < count, source[i]);
-        i += 1;
-    }
-    keep
-}
-
+#[tactic(auto, unfolding(rules::specs::Tables::plant_keeps))]
 pub(crate) fn plant_keeps(e: Extents, plant: Plant) -> bool
     requires { e.extents ≤ extent_limit }
     ensures { result ≡ plant_keeps (valid (present e)) plant }
 {
-    let versions = plant.versions;
-    let cpu = plant.cpu;
-    let source = plant.source;
-    ((1 <= plant.cpus) & versions_right(versions))
-        & (cpus_keep(e, plant.cpus, cpu)
-            & sources_keep(plant.cpus, versions.interrupt, plant.sources, source))
+    1 <= plant.cpus
+        && versions_right(plant.versions)
+        && cpus_right(e, plant)
+        && sources_right(plant)
 }

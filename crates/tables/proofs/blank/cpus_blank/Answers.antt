@@ -1,16 +1,17 @@
--- `tables::blank::cpus_blank` meets its contract: the places passed are blank if the test still holds.
-use mathlib.Core.Bool.{true}
-use native.Mathlib.Omega.{arith}
-use Rattle.tables.specs.Lists.{cpus_blank}
-use Rattle.tables.proofs.Every.{every_start, every_next, every_end}
+-- `tables::blank::cpus_blank` meets its contract: each cpu passes the test.
+use mathlib.Core.Path.{◌∙◌}
+use Rattle.std.proofs.Common.{◌≡◌, arith, length, rules}
+use Rattle.std.proofs.lemmas.Iterator.{YieldsList-from_slice}
+use Rattle.std.proofs.lemmas.Iterator.Search.{all_from_yields_List}
+use borrow.Author.Tests.{tests}
+use Rattle.rules.specs.Limits.{cpu_limit}
+use Rattle.rules.specs.Kept.{hollow_cpu}
+use Rattle.rules.specs.Tables.{cpu_blank}
+use Rattle.tables.proofs.Parts.{all_items}
 use Rattle.tables.proofs.blank.cpus_blank.Goals as goal
 
-pub loop-i-init : goal.loop-i-init
-loop-i-init c = (omega arith, every_start _ _)
-
-pub loop-i-preserved : goal.loop-i-preserved
-loop-i-preserved c = (omega arith, search every_next)
-
 pub returns : goal.returns
-unfolding cpus_blank
-returns c = every_end _ true _ _ _ c.loop-i.invariant.1 (omega arith) (omega arith)
+returns c =
+    let n : length c.args.cpu ≡ cpu_limit = omega arith in
+    all_from_yields_List cpu_blank _ _ c.all.result c.all.ensures.ran (YieldsList-from_slice c.args.cpu cc) (λ x b q k. search (rules, tests))
+    ∙ rw n at (all_items hollow_cpu cpu_blank c.args.cpu)

@@ -1,15 +1,10 @@
--- `tables::blank::extents_blank` meets its contract: the places passed are blank if the test still holds.
+-- `tables::blank::extents_blank` meets its contract: each extent is compared with the blank one.
+use mathlib.Core.Path.{refl, ◌∙◌}
 use native.Mathlib.Omega.{arith}
-use Rattle.rules.specs.Tables.{extents_blank}
-use Rattle.tables.proofs.Every.{every_start, every_next, every_end}
+use Rattle.rules.specs.Tables.{extent_blank}
+use Rattle.tables.proofs.Equal.{extents_compared}
 use Rattle.tables.proofs.blank.extents_blank.Goals as goal
 
-pub loop-i-init : goal.loop-i-init
-loop-i-init c = (omega arith, every_start _ _)
-
-pub loop-i-preserved : goal.loop-i-preserved
-loop-i-preserved c = (omega arith, search every_next)
-
 pub returns : goal.returns
-unfolding extents_blank
-returns c = search every_end
+unfolding extent_blank
+returns c = rw c.extents.ensures at c.eq.ensures ∙ extents_compared _ (λ x. refl) c.args.e (omega arith)

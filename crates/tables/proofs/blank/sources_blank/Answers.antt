@@ -1,16 +1,12 @@
--- `tables::blank::sources_blank` meets its contract: the places passed are blank if the test still holds.
-use mathlib.Core.Bool.{true}
+-- `tables::blank::sources_blank` meets its contract: each source is compared with the blank one.
+use mathlib.Core.Path.{◌∙◌}
 use native.Mathlib.Omega.{arith}
-use Rattle.tables.specs.Lists.{sources_blank}
-use Rattle.tables.proofs.Every.{every_start, every_next, every_end}
+use Rattle.rules.specs.Limits.{source_limit}
+use Rattle.rules.specs.Kept.{blank_source}
+use Rattle.rules.specs.Tables.{source_blank}
+use Rattle.tables.proofs.Equal.{all_compared}
 use Rattle.tables.proofs.blank.sources_blank.Goals as goal
 
-pub loop-i-init : goal.loop-i-init
-loop-i-init c = (omega arith, every_start _ _)
-
-pub loop-i-preserved : goal.loop-i-preserved
-loop-i-preserved c = (omega arith, search every_next)
-
 pub returns : goal.returns
-unfolding sources_blank
-returns c = every_end _ true _ _ _ c.loop-i.invariant.1 (omega arith) (omega arith)
+unfolding source_blank
+returns c = rw c.sources.ensures at c.eq.ensures ∙ all_compared _ source_blank blank_source blank_source (λ x. grind arith) source_limit c.args.source (omega arith)

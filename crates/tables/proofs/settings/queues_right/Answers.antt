@@ -1,16 +1,21 @@
--- `tables::settings::queues_right` meets its contract: the places passed keep the rule if the test still holds.
-use native.Mathlib.Omega.{arith}
-use mathlib.Core.Bool.{true}
-use Rattle.tables.specs.Lists.{queues_right}
-use Rattle.tables.proofs.Every.{every_start, every_next, every_end}
+-- `tables::settings::queues_right` meets its contract: each queue's record passes the test.
+use mathlib.Core.Path.{◌∙◌}
+use Rattle.std.proofs.Common.{◌≡◌, arith, length, rules}
+use Rattle.std.proofs.lemmas.Iterator.{YieldsList-from_slice}
+use Rattle.std.proofs.lemmas.Iterator.Search.{all_from_yields_List}
+use borrow.Author.Tests.{tests}
+use Rattle.memory.specs.Ready.{present}
+use Rattle.rules.specs.declared.Queue.{Queue}
+use Rattle.rules.specs.Limits.{queue_limit}
+use Rattle.rules.specs.Kept.{blank_queue}
+use Rattle.rules.specs.Real.{valid}
+use Rattle.rules.specs.Tables.{record_right}
+use Rattle.tables.proofs.Parts.{all_items}
 use Rattle.tables.proofs.settings.queues_right.Goals as goal
 
-pub loop-i-init : goal.loop-i-init
-loop-i-init c = (omega arith, every_start _ _)
-
-pub loop-i-preserved : goal.loop-i-preserved
-loop-i-preserved c = (omega arith, search every_next)
-
 pub returns : goal.returns
-unfolding queues_right
-returns c = every_end _ true _ _ _ c.loop-i.invariant.1 (omega arith) (omega arith)
+returns c =
+    let n : length c.args.queues ≡ queue_limit = omega arith in
+    let right = λ (u : Queue). record_right (valid (present c.args.e)) u.held in
+    all_from_yields_List right _ _ c.all.result c.all.ensures.ran (YieldsList-from_slice c.args.queues cc) (λ x b q k. search (rules, tests))
+    ∙ rw n at (all_items blank_queue right c.args.queues)
