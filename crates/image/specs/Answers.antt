@@ -21,3 +21,7 @@ read_of fields = granted (record { end = fields.end; tables = fields.tables })
 -- each call of a closure gives what `status` does
 abbrev pub Gives : (ℕ → ℕ → ImageRefusal → Type 0) → (ℕ → ℕ → ImageRefusal) → Type 0
 Gives post status = (g i : ℕ) (r : ImageRefusal) → post g i r → r ≡ status g i
+
+-- each call of a closure at one of the numbers below k gives what f does
+abbrev pub Reads : {A : Type 0} → (ℕ → A → Type 0) → ℕ → (ℕ → A) → Type 0
+Reads {A} post k f = (i : ℕ) (x : A) → i < k → post i x → x ≡ f i

@@ -1,12 +1,11 @@
 // A guest's part of the image: its three counts, then its extents and its sources.
-ghost use Rattle.std.specs.Prelude.{◌≡◌, ◌+◌, ◌*◌, ◌^◌, ◌<◌, ◌≤◌};
+ghost use Rattle.std.specs.Prelude.{◌≡◌, ℕ, ◌+◌, ◌*◌, ◌^◌, ◌<◌, ◌≤◌, length, replicate};
 ghost use Rattle.rules.specs.declared.ImageRefusal.TheVariants.{HeaderOrCount};
 ghost use Rattle.rules.specs.Limits.{extent_limit, source_limit};
-ghost use Rattle.rules.specs.Kept.{blank_extent, blank_source};
 ghost use Rattle.rules.specs.Rulings.{refused};
-ghost use Rattle.rules.specs.Widths.{counts_bits, extent_bits, source_bits};
-ghost use Rattle.rules.specs.Image.{◌bits_at◌of◌from◌to◌else◌, read_extent, read_source, filled, read_lists, read_guest};
-ghost use Rattle.image.specs.Answers.{Reaches, result_of};
+ghost use Rattle.rules.specs.Widths.{extent_bits, source_bits};
+ghost use Rattle.rules.specs.Image.{◌bits_at◌of◌from◌to◌else◌, read_extent, read_source, filled, read_lists, read_guest, behind};
+ghost use Rattle.image.specs.Answers.{Reaches, Reads, result_of};
 
 use records::blank;
 use rules::widths::{
@@ -59,28 +58,15 @@ fn read_source(s: &[u8], at: u64) -> Source
     source
 }
 
-// The k extents from bit `at` on.
-fn read_extents(s: &[u8], at: u64, k: u8) -> [Extent; EXTENTS]
-    requires { (k ≤ extent_limit) × Reaches s.now (at + extent_bits * k) }
-    ensures { result ≡ filled extent_limit blank_extent (λ i. read_extent s.now (at + extent_bits * i)) k }
+// Fills the first k places of a blank list with what `read` gives for them.
+fn read_list<T: Copy, F: Fn(usize) -> T>(list: &mut [T], k: u8, read: F)
+    requires enough { k ≤ length list.old }
+    requires callable { (i : ℕ) → i < k → F.pre read i }
+    ensures { (size : ℕ) (blank : T) (f : ℕ → T) → list.old ≡ replicate size blank → Reads (F.post read) k f → list.new ≡ filled size blank f k }
 {
-    let mut list = blank::extents();
-    for i in 0..k {
-        list[i as usize] = read_extent(s, at + EXTENT_BITS * i as u64);
+    for i in 0..usize::from(k) {
+        list[i] = read(i);
     }
-    list
-}
-
-// The k sources from bit `at` on.
-fn read_sources(s: &[u8], at: u64, k: u8) -> [Source; SOURCES]
-    requires { (k ≤ source_limit) × Reaches s.now (at + source_bits * k) }
-    ensures { result ≡ filled source_limit blank_source (λ i. read_source s.now (at + source_bits * i)) k }
-{
-    let mut list = blank::sources();
-    for i in 0..k {
-        list[i as usize] = read_source(s, at + SOURCE_BITS * i as u64);
-    }
-    list
 }
 
 // The bit behind lists that start at bit `at`.
@@ -92,11 +78,11 @@ fn behind_lists(at: u64, extents: u8, sources: u8) -> u64
 }
 
 // The bit behind a guest that starts at bit `at`.
-pub(crate) fn behind(at: u64, extents: u8, sources: u8) -> u64
+pub(crate) fn behind(at: u64, guest: &Guest) -> u64
     requires { at < 2 ^ 31 }
-    ensures { result ≡ at + counts_bits + extent_bits * extents + source_bits * sources }
+    ensures { result ≡ behind at guest.now }
 {
-    behind_lists(at + COUNTS_BITS, extents, sources)
+    behind_lists(at + COUNTS_BITS, guest.extents.extents, guest.plant.sources)
 }
 
 // A guest's lists from bit `at` on, behind its three counts. Their bits are all there, or none of them is read.
@@ -105,20 +91,30 @@ fn read_lists(s: &[u8], at: u64, cpus: u8, extents: u8, sources: u8) -> Result<G
     ensures { result ≡ result_of (read_lists s.now at cpus extents sources) }
 {
     let end = behind_lists(at, extents, sources);
-    if (s.len() as u64) < (end + 7) / 8 {
+    if (s.len() as u64) < end.div_ceil(8) {
         return Err(ImageRefusal::ImageShort);
     }
+    let mut extent = blank::extents();
+    read_list(
+        &mut extent,
+        extents,
+        |i| read_extent(s, at + EXTENT_BITS * i as u64),
+    );
+    let sources_at = at + EXTENT_BITS * u64::from(extents);
+    let mut source = blank::sources();
+    read_list(
+        &mut source,
+        sources,
+        |i| read_source(s, sources_at + SOURCE_BITS * i as u64),
+    );
     Ok(Guest {
-        extents: Extents {
-            extents,
-            extent: read_extents(s, at, extents),
-        },
+        extents: Extents { extents, extent },
         plant: Plant {
             versions: blank::versions(),
             cpus,
             cpu: blank::cpus(),
             sources,
-            source: read_sources(s, at + EXTENT_BITS * u64::from(extents), sources),
+            source,
         },
     })
 }

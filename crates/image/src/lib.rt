@@ -39,7 +39,7 @@ fn read_fields(s: &[u8]) -> Result<Read, ImageRefusal>
     let mut at = HEADER_BITS;
     for i in 0..guests {
         let next = guest::read_guest(s, i, at)?;
-        at = guest::behind(at, next.extents.extents, next.plant.sources);
+        at = guest::behind(at, &next);
         guest[usize::from(i)] = next;
     }
     Ok(Read {

@@ -2,8 +2,8 @@
 use Rattle.image.proofs.FillLaws.{fill_behind, fill_bits}
 use Rattle.image.proofs.fill.filled_out.Goals as goal
 
-pub returns-then-s-end : goal.returns-then-s-end
-returns-then-s-end c = search fill_behind
+pub returns-then-s-div_ceil : goal.returns-then-s-div_ceil
+returns-then-s-div_ceil c = search fill_bits
 
-pub returns : goal.returns
-returns c = search fill_bits
+pub returns-else-s-div_ceil : goal.returns-else-s-div_ceil
+returns-else-s-div_ceil c = search fill_behind
