@@ -4,51 +4,23 @@ use mathlib.Core.Path.{◌≡◌, refl, ap}
 use mathlib.Core.List.{List, [], ◌∷◌, ◌++◌, append_assoc}
 use mathlib.Core.Logic.{⊎_elim}
 use Prim.Native.Nat.{ℕ, zero, suc, ◌+◌, ◌-◌, ◌*◌, ◌/◌, ◌%◌, ◌^◌, ◌<◌, ◌≤◌}
-use native.Mathlib.Nat.{pow-suc}
 use native.Mathlib.Numerals.{add-one}
 use native.Mathlib.Omega.{arith}
 use lib.ListN.{length, get_or, take, set, length-append}
-use lib.Seq.{sets, set-set}
+use lib.Seq.{sets, set-set, take_all}
 use borrow.Author.Tests.{lt-ltb, le-ltb}
 use Rattle.rules.specs.declared.Answer.{Answer}
 use Rattle.rules.specs.declared.Answer.TheVariants.{Done, One, Two, Refused}
-use Rattle.rules.specs.declared.Refusal.{Refusal}
 use Rattle.rules.specs.declared.ImageRefusal.{ImageRefusal}
 use Rattle.rules.specs.declared.ImageRefusal.TheVariants.{ImageShort, HeaderOrCount, ExtentNumbers, ExtentOrder, PagesShared, SourceTwice, FillOrBehind}
 use Rattle.rules.specs.Types.{Loading}
-use Rattle.rules.specs.Statuses.{status_of, numbers, image_numbers, loading_numbers}
+use Rattle.rules.specs.Statuses.{numbers, image_numbers, loading_numbers}
 use Rattle.rules.specs.Text.{space, line_feed, digit_byte, hex_of, hex, spaced}
 use Rattle.rules.proofs.Tests.{lt_or_ge}
 use Rattle.text.proofs.Stores.{sets_append}
+use Rattle.text.specs.Put.{Put, numeral}
+use Rattle.text.proofs.PutLaws.{hex_numeral}
 use Rattle.text.specs.Printed.{numbers_text, answer_text, loading_text}
-
--- the five numbers
-module _ (a : Answer) where
-  pub numbers_done : a ≡ Done → 0 ∷ 0 ∷ 0 ∷ 0 ∷ 0 ∷ [] ≡ numbers a
-  unfolding numbers
-  numbers_done e = rw e
-
-  pub numbers_one : (v : ℕ) → a ≡ One v → 0 ∷ v ∷ 0 ∷ 0 ∷ 0 ∷ [] ≡ numbers a
-  unfolding numbers
-  numbers_one v e = rw e
-
-  pub numbers_two : (v w : ℕ) → a ≡ Two v w → 0 ∷ v ∷ w ∷ 0 ∷ 0 ∷ [] ≡ numbers a
-  unfolding numbers
-  numbers_two v w e = rw e
-
-  pub numbers_refused : (why : Refusal) (s : ℕ) → a ≡ Refused why → s ≡ status_of why → s ∷ 0 ∷ 0 ∷ 0 ∷ 0 ∷ [] ≡ numbers a
-  unfolding numbers
-  numbers_refused why s e f = rw (e, f)
-
--- the three numbers
-module _ (a : Loading) where
-  pub loading_accepted : a ≡ (Ok tt) → 0 ∷ 0 ∷ 0 ∷ [] ≡ loading_numbers a
-  unfolding loading_numbers
-  loading_accepted e = rw e
-
-  pub loading_refused : (why : ImageRefusal) (ns : List ℕ) → a ≡ Err why → ns ≡ image_numbers why → ns ≡ loading_numbers a
-  unfolding loading_numbers
-  loading_refused why ns e f = rw e f
 
 -- one digit, and one more digit
 one_digit : (k n : ℕ) → n < 16 → hex_of (suc k) n ≡ digit_byte n ∷ []
@@ -59,14 +31,6 @@ more_digits : (k n : ℕ) → 16 ≤ n → hex_of (suc k) n ≡ hex_of k (n / 16
 unfolding hex_of
 more_digits k n h = rw (le-ltb n 16 h)
 
--- more room than a number has digits changes nothing
-enough : (k n : ℕ) → n < 16 ^ suc k → hex_of (suc (suc k)) n ≡ hex_of (suc k) n
-enough zero n h = rw (one_digit 1 n (omega arith), one_digit 0 n (omega arith))
-enough (suc k) n h =
-    ⊎_elim (λ l. rw (one_digit (suc (suc k)) n l, one_digit (suc k) n l))
-    (λ g. rw (more_digits (suc (suc k)) n g, more_digits (suc k) n g, enough k (n / 16) (omega (arith, pow-suc 16 (suc k)))))
-    (lt_or_ge n 16)
-
 -- at most k digits
 hex_most : (k n : ℕ) → length (hex_of k n) ≤ k
 unfolding hex_of
@@ -76,28 +40,13 @@ hex_most (suc k) n =
     (λ g. rw (more_digits k n g, length-append) (omega (arith, hex_most k (n / 16))))
     (lt_or_ge n 16)
 
--- the last digit of a number of 64 bits
-hex_last : (n : ℕ) → 16 ≤ n → n < 2 ^ 64 → hex n ≡ hex (n / 16) ++ (digit_byte (n % 16) ∷ [])
-hex_last n h f = rw (more_digits 15 n h, enough 14 (n / 16) (omega arith))
+-- a number of 64 bits, as `put_number` writes it
+module _ (n : ℕ) (h : n < 2 ^ 64) where
+  pub hex_room : (at : ℕ) (m : List ℕ) → at + length (hex n) ≤ length m → at + length (numeral 16 n) ≤ length m
+  hex_room at m g = rw (← hex_numeral 15 n h) g
 
--- what `put_hex` writes over m, and that it has room
-module _ (at n : ℕ) where
-  module _ (h : n < 16) where
-    pub hex_place : (room : ℕ) → at + length (hex n) ≤ room → at < room
-    hex_place room f = omega (arith, rw (one_digit 15 n h) at f)
-
-    pub hex_few : (m : List ℕ) (d : ℕ) → d ≡ digit_byte n → (at + 1 ≡ at + length (hex n)) × (set m at d ≡ sets m at (hex n))
-    hex_few m d e = rw (one_digit 15 n h, e) (refl, refl)
-
-  module _ (h : 16 ≤ n) (f : n < 2 ^ 64) where
-    pub hex_fits : (room : ℕ) → at + length (hex n) ≤ room → at + length (hex (n / 16)) < room
-    hex_fits room g = omega (arith, rw (hex_last n h f, length-append) at g)
-
-    pub hex_more : (m : List ℕ) (r d : ℕ) (o : List ℕ) → (r ≡ at + length (hex (n / 16))) × (o ≡ sets m at (hex (n / 16))) → d ≡ digit_byte (n % 16)
-        → (r + 1 ≡ at + length (hex n)) × (set o r d ≡ sets m at (hex n))
-    hex_more m r d o w e =
-        rw (hex_last n h f, length-append)
-        (omega arith, rw (w.0, w.1, e) (sets_append (hex (n / 16)) (digit_byte (n % 16) ∷ []) m at))
+  pub hex_put : (m o : List ℕ) (at r : ℕ) → Put m o at r (numeral 16 n) → (r ≡ at + length (hex n)) × (o ≡ sets m at (hex n))
+  hex_put m o at r p = rw (hex_numeral 15 n h) (p.behind, p.bytes)
 
 -- the first i numbers, each with a space behind it
 unfoldable pub trailed : List ℕ → ℕ → List ℕ
@@ -176,6 +125,13 @@ module _ (ns m : List ℕ) (from : ℕ) where
           go : (k : ℕ) → 1 ≤ k → i ≡ k → k ≤ length ns → (at ≡ from + length (numbers_text k ns)) × (set o (at - 1) line_feed ≡ sets m from (numbers_text k ns))
           go zero g q n = absurd (omega arith)
           go (suc j) g q n = rw (b, a, q) (rw (fed_length ns j n), fed ns m from j n)
+
+-- the numbers, as the code takes the first count of them
+pub taken_end : (ns m o : List ℕ) (from count at : ℕ) → count ≤ length ns
+    → (at ≡ from + length (numbers_text (length (take count ns)) (take count ns))) × (set o (at - 1) line_feed ≡ sets m from (numbers_text (length (take count ns)) (take count ns)))
+    → (at ≡ from + length (numbers_text count ns)) × (set o (at - 1) line_feed ≡ sets m from (numbers_text count ns))
+unfolding numbers_text
+taken_end ns m o from count at h w = rw (take_all (length (take count ns)) (take count ns) (omega arith)) at w
 
 -- as many bytes as its digits, and one more for each number
 pub numbers_most : (ns : List ℕ) (j : ℕ) → j < length ns → length (numbers_text (suc j) ns) ≤ 17 * suc j

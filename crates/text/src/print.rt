@@ -1,10 +1,11 @@
 // What the session program prints: "all lower-case hex, no leading zeros", numbers parted by one space.
-ghost use Rattle.std.specs.Prelude.{◌≡◌, ◌+◌, ◌<◌, ◌≤◌, length};
+ghost use Rattle.std.specs.Prelude.{◌≡◌, ◌+◌, ◌≤◌, length};
 ghost use Rattle.std.proofs.lemmas.List.Edits.{sets};
 ghost use Rattle.rules.specs.Statuses.{status_of, numbers, image_numbers, loading_numbers, write_status};
-ghost use Rattle.rules.specs.Text.{digit_byte, hex};
+ghost use Rattle.rules.specs.Text.{hex};
 ghost use Rattle.text.specs.Printed.{numbers_text, answer_text, loading_text, bad_text};
 
+use crate::put::{put_number, put_text};
 use rules::{Answer, ImageRefusal, Refusal, WriteRefusal};
 
 #[tactic(auto, unfolding(rules::specs::Statuses::status_of))]
@@ -80,26 +81,12 @@ pub fn write_status(why: WriteRefusal) -> u64
     }
 }
 
-// A digit, in lower case.
-pub fn digit_byte(d: u8) -> u8
-    requires { d < 16 }
-    ensures { result ≡ digit_byte d }
-{
-    if d < 10 { 0x30 + d } else { 0x57 + d }
-}
-
-// Writes n from the place at on, its leading digits first, and gives the place behind it.
+// Writes n from the place at on, and gives the place behind it.
 fn put_hex(n: u64, at: usize, out: &mut [u8]) -> usize
     requires { at + length (hex n) ≤ length out.old }
     ensures { (result ≡ at + length (hex n)) × (out.new ≡ sets out.old at (hex n)) }
 {
-    if n < 16 {
-        out[at] = digit_byte(n as u8);
-        return at + 1;
-    }
-    let last = put_hex(n / 16, at, out);
-    out[last] = digit_byte((n % 16) as u8);
-    last + 1
+    put_number(n, 16, at, out)
 }
 
 // The first count numbers and a line feed. Each number is written with a space behind it, and the line feed over the last space.
@@ -108,12 +95,10 @@ pub fn put_numbers(ns: [u64; 5], count: usize, from: usize, out: &mut [u8]) -> u
     ensures { (result ≡ from + length (numbers_text count ns)) × (out.new ≡ sets out.old from (numbers_text count ns)) }
 {
     let mut at = from;
-    let mut i = 0;
-    while i < count {
-        at = put_hex(ns[i], at, out);
+    for n in &ns[..count] {
+        at = put_hex(*n, at, out);
         out[at] = b' ';
         at += 1;
-        i += 1;
     }
     out[at - 1] = b'\n';
     at
@@ -141,9 +126,5 @@ pub fn put_bad(at: usize, out: &mut [u8]) -> usize
     requires { at + 96 ≤ length out.old }
     ensures { (result ≡ at + length bad_text) × (out.new ≡ sets out.old at bad_text) }
 {
-    out[at] = b'b';
-    out[at + 1] = b'a';
-    out[at + 2] = b'd';
-    out[at + 3] = b'\n';
-    at + 4
+    put_text(b"bad\n", at, out)
 }

@@ -1,0 +1,5 @@
+-- `put::put_number`: the number is smaller at each call within.
+use Rattle.text.proofs.put.+put_number.Given as goal
+
+abbrev pub decreases-put_number : goal.decreases-put_number
+decreases-put_number l = l.n
