@@ -5,9 +5,9 @@ ghost use Rattle.reasons.specs.Words.{status_text, unfed, first_piece, fed, reas
 ghost use Rattle.reasons.specs.Put.{Put};
 
 use crate::line::{last_byte, why_bad};
-use crate::put::{ROOM, put_text};
+use crate::put::ROOM;
 use crate::words::{put_meaning, put_why};
-use text::{piece_end, read_number, same_text};
+use text::{piece_end, put_text, read_number, same_text};
 
 // A status as it is printed.
 fn put_status(text: &[u8], out: &mut [u8; ROOM]) -> usize

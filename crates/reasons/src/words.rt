@@ -5,7 +5,8 @@ ghost use Rattle.reasons.specs.Words.{meanings, meaning_in, meaning, decimal, fo
 ghost use Rattle.reasons.specs.Put.{Put};
 
 use crate::fault::{Fault, Word};
-use crate::put::{ROOM, put_decimal, put_text};
+use crate::put::{ROOM, put_decimal};
+use text::put_text;
 
 // What a status means: those of loading, behind the fourteenth of the table.
 fn put_image_meaning(status: u64, out: &mut [u8; ROOM]) -> usize
