@@ -69,7 +69,8 @@ fn put_extents(out: &mut [u8], at: u64, e: Extents)
     }
 }
 
-// The sources that are there, from bit `at` on.
+// The sources that are there, from bit `at` on. As put_extents, of rows of another type and length: a trait of rows, with its
+// ghost members and laws, would be longer than both loops.
 fn put_sources(out: &mut [u8], at: u64, plant: Plant)
     requires { (at < 2 ^ 31) × (plant.sources ≤ source_limit) × (at + source_bits * plant.sources ≤ 8 * length out.old) }
     ensures { out.new ≡ put_bits out.old at (each_below plant.sources (λ i. source_row (source_at plant i))) }
