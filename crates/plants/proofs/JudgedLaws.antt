@@ -3,8 +3,7 @@ use Rattle.std.proofs.Common.{Ok, Err}
 use mathlib.Core.Path.{◌≡◌, ◌∙◌}
 use Rattle.rules.specs.declared.Refusal.{Refusal}
 use Rattle.rules.specs.Rulings.{Ruling, refused, granted}
-use Rattle.records.specs.Verdict.{Verdict}
-use Rattle.records.specs.Verdict.{verdict_of}
+use Rattle.records.specs.Verdict.{Verdict, verdict_of}
 use Rattle.plants.specs.Judged.{judged}
 
 module _ {A : Type 0} (x : Ruling A → Ruling A) (t : Verdict) (f : (rest : Ruling A) → x rest ≡ judged t rest) where
@@ -12,10 +11,10 @@ module _ {A : Type 0} (x : Ruling A → Ruling A) (t : Verdict) (f : (rest : Rul
   unfolding judged
   judged_refused r e rest = f rest ∙ rw e
 
-  pub judged_right : t ≡ (Ok tt) → (rest : Ruling A) → x rest ≡ rest
+  pub judged_right : t ≡ Ok tt → (rest : Ruling A) → x rest ≡ rest
   unfolding judged
   judged_right e rest = f rest ∙ rw e
 
-  pub judged_told : t ≡ (Ok tt) → (a : A) → verdict_of (x (granted a)) ≡ (Ok tt)
+  pub judged_told : t ≡ Ok tt → (a : A) → verdict_of (x (granted a)) ≡ Ok tt
   unfolding verdict_of
   judged_told e a = rw (judged_right e)
