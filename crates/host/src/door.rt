@@ -1,55 +1,43 @@
 // "Before anything": whether an event is refused at the door, and if not, which guest answers it.
-ghost use Rattle.std.specs.Prelude.{◌≡◌, true};
+ghost use Rattle.std.specs.Prelude.{◌≡◌, true, is_ok};
 ghost use Rattle.rules.specs.Tables.{keep_rules};
-ghost use Rattle.records.specs.Verdict.{is_right};
 ghost use Rattle.host.specs.Seats.{door_of, seat_for, seat_of};
 
 use crate::owner::owner_of;
-use records::Verdict;
-use rules::{Event, Owner, Refusal, Tables};
-
-// Where an event is answered: nowhere, or at a guest that is there.
-#[derive(Clone, Copy)]
-pub enum Seat {
-    Refused(Refusal),
-    Guest(usize),
-}
+use rules::{Event, Refusal, Tables};
 
 // 101, then 102, for memory of len bytes.
-pub fn door_of(tables: Tables, len: usize) -> Verdict
+#[tactic(auto, unfolding(crate::specs::Seats::door_of))]
+pub fn door_of(tables: Tables, len: usize) -> Result<(), Refusal>
     ensures { result ≡ door_of tables len }
 {
     if !tables::keep_rules(tables) {
-        return Verdict::Refused(Refusal::BadTables);
+        return Err(Refusal::BadTables);
     }
     if !tables::long_enough(tables, len) {
-        return Verdict::Refused(Refusal::ShortMemory);
+        return Err(Refusal::ShortMemory);
     }
-    Verdict::Right
+    Ok(())
 }
 
 // 104, or 103 for a guest that is not there.
-fn seat_for(guests: u8, owner: Owner) -> Seat
+#[tactic(auto, unfolding(crate::specs::Seats::seat_for))]
+fn seat_for(guests: u8, owner: Option<u64>) -> Result<usize, Refusal>
     ensures { result ≡ seat_for guests owner }
 {
-    match owner {
-        Owner::Nobody => Seat::Refused(Refusal::NoSource),
-        Owner::Guest(g) => {
-            if guests as u64 <= g {
-                return Seat::Refused(Refusal::NoCaller);
-            }
-            Seat::Guest(g as usize)
-        }
+    let g = owner.ok_or(Refusal::NoSource)?;
+    if u64::from(guests) <= g {
+        return Err(Refusal::NoCaller);
     }
+    Ok(g as usize)
 }
 
-// The seat of an event, where the door came to `door`.
-pub fn seat_of(tables: Tables, door: Verdict, event: Event) -> Seat
-    requires { is_right door ≡ true → keep_rules tables ≡ true }
+// Where an event is answered, at a guest that is there, if the door came to `door`.
+#[tactic(auto, unfolding(crate::specs::Seats::seat_of))]
+pub fn seat_of(tables: Tables, door: Result<(), Refusal>, event: Event) -> Result<usize, Refusal>
+    requires { is_ok door ≡ true → keep_rules tables ≡ true }
     ensures { result ≡ seat_of tables door event }
 {
-    match door {
-        Verdict::Refused(r) => Seat::Refused(r),
-        Verdict::Right => seat_for(tables.guests, owner_of(tables, event)),
-    }
+    door?;
+    seat_for(tables.guests, owner_of(tables, event))
 }

@@ -10,13 +10,13 @@ ghost use Rattle.std.specs.Prelude.{◌≡◌};
 ghost use Rattle.rules.specs.Host.{host_event};
 ghost use Rattle.host.specs.Settles.{Settles};
 
-pub use door::{Seat, door_of, seat_of};
+pub use door::{door_of, seat_of};
 use plants::plant_after;
 use put::with_plant;
 use rules::{Answer, Event, Refusal, Tables};
 
 // What an event gives back: the answer, and the tables after.
-#[derive(Clone, Copy)]
+#[derive(Clone, Copy, PartialEq, Eq)]
 pub struct Settled {
     pub answer: Answer,
     pub tables: Tables,
@@ -36,19 +36,15 @@ pub fn event(tables: Tables, mem: &mut [u8], event: Event) -> Settled
 {
     let door = door_of(tables, mem.len());
     match seat_of(tables, door, event) {
-        Seat::Refused(r) => refused(tables, r),
-        Seat::Guest(i) => {
+        Err(r) => refused(tables, r),
+        Ok(i) => {
             let guest = tables.guest[i];
-            let extents = guest.extents;
             let plant = guest.plant;
-            let c = calls::cpu_of(plant, event);
-            let own = plant.cpu[c];
-            let done = calls::plant_event(extents, plant, own, mem, event);
-            let answer = done.answer;
-            let after = plant_after(plant, done);
+            let own = plant.cpu[calls::cpu_of(plant, event)];
+            let done = calls::plant_event(guest.extents, plant, own, mem, event);
             Settled {
-                answer,
-                tables: with_plant(tables, i, after),
+                answer: done.answer,
+                tables: with_plant(tables, i, plant_after(plant, done)),
             }
         }
     }

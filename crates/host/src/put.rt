@@ -9,9 +9,7 @@ pub(crate) fn with_plant(tables: Tables, g: usize, plant: Plant) -> Tables
     requires { g < guest_limit }
     ensures { result ≡ with_plant tables g plant }
 {
-    let mut guest = tables.guest[g];
-    guest.plant = plant;
     let mut next = tables;
-    next.guest[g] = guest;
+    next.guest[g].plant = plant;
     next
 }

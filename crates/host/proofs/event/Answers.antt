@@ -9,31 +9,31 @@ pub seat_of-requires : goal.seat_of-requires
 seat_of-requires c = search right_keeps
 
 pub offset_bounds-tables-i : goal.offset_bounds-tables-i
-offset_bounds-tables-i c = omega (arith, guest_below _ _ _ c.door_of-door.ensures _ _ c.seat_of.ensures _ c.in-Guest.is)
+offset_bounds-tables-i c = omega (arith, guest_below _ _ _ c.door_of-door.ensures _ _ c.in-Ok.ensures)
 
 pub bounds-tables-i : goal.bounds-tables-i
-bounds-tables-i c = search guest_below
+bounds-tables-i c = guest_below _ _ _ c.door_of-door.ensures _ _ c.in-Ok.ensures
 
-pub cpu_of-c-requires : goal.cpu_of-c-requires
-cpu_of-c-requires c = search guest_sources
+pub cpu_of-requires : goal.cpu_of-requires
+cpu_of-requires c = guest_sources _ _ _ c.door_of-door.ensures _ _ c.in-Ok.ensures
 
-pub offset_bounds-plant-c : goal.offset_bounds-plant-c
-offset_bounds-plant-c c = omega (arith, own_below _ _ _ c.cpu_of-c.ensures)
+pub offset_bounds-plant-cpu_of : goal.offset_bounds-plant-cpu_of
+offset_bounds-plant-cpu_of c = omega (arith, own_below _ _ _ c.cpu_of.ensures)
 
-pub bounds-plant-c : goal.bounds-plant-c
-bounds-plant-c c = search own_below
+pub bounds-plant-cpu_of : goal.bounds-plant-cpu_of
+bounds-plant-cpu_of c = own_below _ _ _ c.cpu_of.ensures
 
 pub plant_event-done-requires : goal.plant_event-done-requires
-plant_event-done-requires c = record { sound = search guest_sound; own_value = search own_taken }
+plant_event-done-requires c = record { sound = guest_sound _ _ _ c.door_of-door.ensures _ _ c.in-Ok.ensures; own_value = own_taken _ _ _ c.cpu_of.ensures }
 
-pub plant_after-after-requires : goal.plant_after-after-requires
-plant_after-after-requires c = search guest_cpus
+pub plant_after-requires : goal.plant_after-requires
+plant_after-requires c = guest_cpus _ _ _ c.door_of-door.ensures _ _ c.in-Ok.ensures
 
 pub with_plant-requires : goal.with_plant-requires
-with_plant-requires c = search guest_below
+with_plant-requires c = guest_below _ _ _ c.door_of-door.ensures _ _ c.in-Ok.ensures
 
-pub returns-in-Refused : goal.returns-in-Refused
-returns-in-Refused c = search settles_refused
+pub returns-in-Err : goal.returns-in-Err
+returns-in-Err c = settles_refused _ _ _ c.door_of-door.ensures _ _ _ c.in-Err.ensures c.refused.ensures
 
-pub returns-in-Guest : goal.returns-in-Guest
-returns-in-Guest c = settles_answered _ _ _ c.door_of-door.ensures _ _ c.seat_of.ensures _ _ c.in-Guest.is c.plant_event-done.result _ c.plant_event-done.ensures refl _ c.plant_after-after.ensures c.with_plant.ensures
+pub returns-in-Ok : goal.returns-in-Ok
+returns-in-Ok c = settles_answered _ _ _ c.door_of-door.ensures _ _ _ c.in-Ok.ensures c.plant_event-done.result _ c.plant_event-done.ensures refl _ c.plant_after.ensures c.with_plant.ensures

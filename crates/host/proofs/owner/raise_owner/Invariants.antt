@@ -1,13 +1,10 @@
 -- `host::owner::raise_owner` meets its contract: a search of the guests that are there.
+use Rattle.std.proofs.Common.{None}
 use mathlib.Core.Path.{◌≡◌}
-use Prim.Native.Nat.{◌-◌, ◌≤◌}
-use Rattle.rules.specs.declared.Found.{Found}
+use Prim.Native.Nat.{◌≤◌}
 use Rattle.rules.specs.Scan.{first_below}
 use Rattle.host.proofs.OwnerLaws.{has}
 use Rattle.host.proofs.owner.raise_owner.Given as goal
 
 abbrev pub invariant-loop-g : goal.invariant-loop-g
-invariant-loop-g l = (l.g ≤ l.guests) × (l.count ≡ l.guests) × (first_below l.g (has l.guests l.guest l.d) ≡ Found.Nothing)
-
-abbrev pub decreases-loop-g : goal.decreases-loop-g
-decreases-loop-g l = l.guests - l.g
+invariant-loop-g l = (l.g ≤ l.guests) × (first_below l.g (has l.guests l.guest l.d) ≡ None)
