@@ -1,3 +1,4 @@
+-- `tables::blank::cpu_blank` meets its contract: each queue and each descriptor is compared with the blank one.
 use Rattle.std.proofs.Common.{arith}
 use mathlib.Core.Path.{refl, ◌∙◌}
 use mathlib.Core.Bool.{and_assoc}

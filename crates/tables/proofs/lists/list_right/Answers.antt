@@ -1,4 +1,4 @@
--- `tables::list_right` meets its contract: the first places and the others each pass their test, or there are fewer places than the count.
+-- `tables::lists::list_right` meets its contract: the first places and the others each pass their test, or there are fewer places than the count.
 use Rattle.std.proofs.Common.{◌≡◌, arith, rules}
 use Rattle.std.specs.List.{list_all}
 use Rattle.std.proofs.lemmas.Iterator.{YieldsList-from_slice}

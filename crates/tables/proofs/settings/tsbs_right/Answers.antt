@@ -1,3 +1,4 @@
+-- `tables::settings::tsbs_right` meets its contract: the list's tests are the rule's.
 use Rattle.std.proofs.Common.{◌≡◌, arith, length, rules}
 use Rattle.rules.specs.Limits.{tsb_limit}
 use Rattle.rules.specs.Kept.{blank_tsb}
