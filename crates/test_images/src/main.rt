@@ -6,10 +6,8 @@ use image::load;
 use std::io;
 
 fn show<P: Print>(rt: &P, name: &str, bytes: &[u8]) -> io::Result<()> {
-    let loaded = load(bytes);
-    let answer = loaded.answer;
-    let numbers = text::loading_numbers(answer);
-    println!(rt; "{} {} {} {name}", numbers[0], numbers[1], numbers[2])
+    let [status, first, second] = text::loading_numbers(load(bytes).answer);
+    println!(rt; "{status} {first} {second} {name}")
 }
 
 fn main(rt: HostRuntime) -> io::Result<()> {
