@@ -51,11 +51,12 @@ fn read_source(s: &[u8], at: u64) -> Source
     requires { Reaches s.now (at + source_bits) }
     ensures { result ≡ read_source s.now at }
 {
-    let mut source = blank::source();
-    source.devhandle = bits::number_at(s, at, DEVHANDLE_WIDTH);
-    source.devino = bits::number_at(s, at + DEVINO_AT, DEVINO_WIDTH) as u8;
-    source.cookies = bits::number_at(s, at + COOKIE_SUPPORT_AT, COOKIE_SUPPORT_WIDTH) == 1;
-    source
+    Source {
+        devhandle: bits::number_at(s, at, DEVHANDLE_WIDTH),
+        devino: bits::number_at(s, at + DEVINO_AT, DEVINO_WIDTH) as u8,
+        cookies: bits::number_at(s, at + COOKIE_SUPPORT_AT, COOKIE_SUPPORT_WIDTH) == 1,
+        ..blank::source()
+    }
 }
 
 // Fills the first k places of a blank list with what `read` gives for them.

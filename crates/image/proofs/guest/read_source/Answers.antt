@@ -3,5 +3,5 @@ use native.Mathlib.Omega.{arith}
 use Rattle.bits.proofs.FieldLaws.{field_fits}
 use Rattle.image.proofs.guest.read_source.Goals as goal
 
-pub overflow_cast-source : goal.overflow_cast-source
-overflow_cast-source c = record { fits = omega (arith, field_fits _ _ 7 _ c.number_at-2.ensures) }
+pub overflow_cast-result : goal.overflow_cast-result
+overflow_cast-result c = record { fits = omega (arith, field_fits _ _ 7 _ c.number_at-2.ensures) }
