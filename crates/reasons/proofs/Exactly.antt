@@ -13,6 +13,7 @@ use Rattle.rules.specs.declared.Event.{Event}
 use Rattle.std.specs.Option.{is_some}
 use Rattle.rules.specs.Text.{Line, bad, image, event, word_image, call_word, word_head, word_raise, word_load, word_store, word_hit, same, consed, digits, field, fields, paired, paired_or, joined, event_line, event_or, image_or, line_of, pieces, parse, call_of, head_of, device_of, load_of, store_of, hit_of}
 use Rattle.rules.proofs.Tests.{and_left, and_right, bool_same}
+use Rattle.text.proofs.Same.{same_eq}
 use Rattle.reasons.specs.declared.fault.Word.{Word}
 use Rattle.reasons.specs.declared.fault.Fault.{Fault}
 use Rattle.reasons.specs.declared.fault.Fault.TheVariants.{TooLong, EmptyField, NoNumber, NoDigit, OddDigits}
@@ -137,14 +138,6 @@ module _ (ns : List ℕ) where
   hit_exactly : Exact word_hit
   unfolding Exact event_line word_of same
   hit_exactly = rw (zero-add, ← as_many 6) (fits (eqb (length ns) 6) (Event.Hit (hit_of ns)))
-
--- the same text
-same_eq : (a b : List ℕ) → same a b ≡ true → a ≡ b
-unfolding same
-same_eq [] [] e = refl
-same_eq [] (y ∷ ys) e = absurd (false≢true e)
-same_eq (x ∷ xs) [] e = absurd (false≢true e)
-same_eq (x ∷ xs) (y ∷ ys) e = ap₂ ◌∷◌ (eqb-true x y (and_left _ _ e)) (same_eq xs ys (and_right (eqb x y) _ e))
 
 named_exactly : (word ns : List ℕ) → Exact ns word
 unfolding Exact event_line word_of

@@ -1,3 +1,4 @@
+pub mod NamedLaws
 pub mod FieldLaws
 pub mod ImageLaws
 pub mod LineLaws

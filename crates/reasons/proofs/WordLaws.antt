@@ -7,8 +7,7 @@ use mathlib.Core.List.{List, [], ◌∷◌, ◌++◌, append_assoc}
 use Prim.Native.Nat.{ℕ, zero, suc, ◌+◌, ◌-◌, ◌≤◌}
 use native.Mathlib.Nat.{zero-add}
 use native.Mathlib.Omega.{arith}
-use lib.ListN.{length, take, drop}
-use lib.Seq.{take-length}
+use lib.ListN.{length, get_or, take, drop}
 use borrow.Author.Tests.{eq-eqb, ne_eqb}
 use Rattle.rules.specs.Text.{bytes_of, line_feed, word_bad, same, field}
 use Rattle.text.specs.Pieces.{first_length}
@@ -65,21 +64,18 @@ first_piece_lem line text m o r end e p =
     let k : end ≡ first_length text = e ∙ zero-add _ in
     rw (← k) p
 
--- an answer's line feed
-pub some_byte : (s : List ℕ) (b : ℕ) → b ≡ last_byte s → b ≡ line_feed → 1 ≤ length s
-unfolding last_byte
-some_byte [] b e f = absurd (omega arith)
-some_byte (x ∷ s) b e f = omega arith
+-- an answer's line feed, as a match on its last byte tells it
+pub with_feed : (s : List ℕ) → 1 ≤ length s → get_or s (length s - 1) 0 ≡ 10 → take (length s - 1) s ≡ unfed s
+unfolding unfed last_byte
+with_feed s h e = rw (eq-eqb _ _ e)
 
-pub with_feed : (s : List ℕ) (b : ℕ) → b ≡ last_byte s → b ≡ line_feed → (take (length s - 1) s ≡ unfed s) × (length s - 1 ≤ length s)
-unfolding unfed
-with_feed s b e f = let z : last_byte s ≡ line_feed = sym e ∙ f in (rw (eq-eqb _ _ z), omega arith)
+pub without_feed : (s : List ℕ) → (1 ≤ length s → get_or s (length s - 1) 0 ≡ 10 → ⊥) → s ≡ unfed s
+unfolding unfed last_byte
+without_feed [] f = refl
+without_feed (b ∷ s) f = rw (ne_eqb (get_or (b ∷ s) (length (b ∷ s) - 1) 0) line_feed (f (omega arith)))
 
-pub without_feed : (s : List ℕ) (b : ℕ) → b ≡ last_byte s → (b ≡ line_feed → ⊥) → (take (length s) s ≡ unfed s) × (length s ≤ length s)
-unfolding unfed
-without_feed s b e f = (rw (ne_eqb (last_byte s) line_feed (λ z. f (e ∙ z)), take-length s), omega arith)
+pub ruleset feeds = (with_feed, without_feed)
 
-pub whole_reason : (line answer m o : List ℕ) (r end : ℕ) → take end answer ≡ unfed answer
-    → Put m o 0 r (fed (reason_by line (first_piece (take end answer)))) → Put m o 0 r (reason line answer)
+pub whole_reason : (line answer t m o : List ℕ) (r : ℕ) → t ≡ unfed answer → Put m o 0 r (fed (reason_by line (first_piece t))) → Put m o 0 r (reason line answer)
 unfolding reason
-whole_reason line answer m o r end e p = rw (← e) p
+whole_reason line answer t m o r e p = rw (← e) p

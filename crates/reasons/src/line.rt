@@ -9,29 +9,19 @@ use crate::image::why_image;
 use text::{piece_end, same_text};
 
 // The event that a first word names.
-#[tactic(auto, unfolding(crate::specs::Faults::word_of))]
+#[tactic(auto, using(crate::proofs::NamedLaws::named))]
 fn word_of(text: &[u8]) -> Option<Word>
     ensures { result ≡ word_of text.now }
 {
-    if same_text(text, b"call") {
-        return Some(Word::Call);
+    match text {
+        b"call" => Some(Word::Call),
+        b"head" => Some(Word::Head),
+        b"raise" => Some(Word::Raise),
+        b"load" => Some(Word::Load),
+        b"store" => Some(Word::Store),
+        b"hit" => Some(Word::Hit),
+        _ => None,
     }
-    if same_text(text, b"head") {
-        return Some(Word::Head);
-    }
-    if same_text(text, b"raise") {
-        return Some(Word::Raise);
-    }
-    if same_text(text, b"load") {
-        return Some(Word::Load);
-    }
-    if same_text(text, b"store") {
-        return Some(Word::Store);
-    }
-    if same_text(text, b"hit") {
-        return Some(Word::Hit);
-    }
-    None
 }
 
 // Of a line that is not too long: its first word, and what follows it.
@@ -49,7 +39,7 @@ fn why_line(s: &[u8]) -> Option<Fault>
 }
 
 #[tactic(auto, unfolding(crate::specs::Faults::last_byte))]
-pub(crate) fn last_byte(s: &[u8]) -> u8
+fn last_byte(s: &[u8]) -> u8
     ensures { result ≡ last_byte s.now }
 {
     match s.last() {

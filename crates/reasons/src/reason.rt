@@ -1,10 +1,10 @@
 // The reason for what the session printed for a line.
-ghost use Rattle.std.specs.Prelude.{◌≡◌, ◌≤◌, length, take};
+ghost use Rattle.std.specs.Prelude.{◌≡◌};
 ghost use Rattle.rules.specs.Text.{field};
 ghost use Rattle.reasons.specs.Words.{status_text, unfed, first_piece, fed, reason_by, reason};
 ghost use Rattle.reasons.specs.Put.{Put};
 
-use crate::line::{last_byte, why_bad};
+use crate::line::why_bad;
 use crate::put::ROOM;
 use crate::words::{put_meaning, put_why};
 use text::{piece_end, put_text, read_number, same_text};
@@ -30,13 +30,14 @@ fn put_reason_by(line: &[u8], text: &[u8], out: &mut [u8; ROOM]) -> usize
 }
 
 // An answer without its line feed.
-fn unfed_end(answer: &[u8]) -> usize
-    ensures { (take result answer.now ≡ unfed answer.now) × (result ≤ length answer.now) }
+#[tactic(auto, using(crate::proofs::WordLaws::feeds))]
+fn unfed(answer: &[u8]) -> &[u8]
+    ensures { result.now ≡ unfed answer.now }
 {
-    if last_byte(answer) == b'\n' {
-        return answer.len() - 1;
+    match answer {
+        [front @ .., b'\n'] => front,
+        _ => answer,
     }
-    answer.len()
 }
 
 fn put_reason_of(line: &[u8], text: &[u8], out: &mut [u8; ROOM]) -> usize
@@ -51,6 +52,5 @@ fn put_reason_of(line: &[u8], text: &[u8], out: &mut [u8; ROOM]) -> usize
 pub fn put_reason(line: &[u8], answer: &[u8], out: &mut [u8; ROOM]) -> usize
     ensures { Put out.old out.new 0 result (reason line.now answer.now) }
 {
-    let end = unfed_end(answer);
-    put_reason_of(line, &answer[..end], out)
+    put_reason_of(line, unfed(answer), out)
 }

@@ -1,14 +1,14 @@
 -- The line at each return of the event's code, from the tests on the way: t is what the code's test of a word came to.
 use Rattle.std.specs.Prelude.{if◌then◌else◌}
 use mathlib.Core.Bool.{Bool, true, false, ◌&&◌}
-use mathlib.Core.Path.{◌≡◌, sym, ◌∙◌}
+use mathlib.Core.Path.{◌≡◌, refl, sym, ◌∙◌}
 use mathlib.Core.List.{List}
-use mathlib.Core.Logic.{◌⊎◌, ⊎_elim}
-use Prim.Native.Nat.{ℕ, ◌<◌, ◌≤◌}
+use mathlib.Core.Logic.{⊎_elim}
+use Prim.Native.Nat.{ℕ, ◌≤◌}
 use lib.Dec.{leb, eqb}
 use lib.ListN.{length, get_or, take, get_or-eq_default}
 use lib.Seq.{get_or-take, length-take-le}
-use borrow.Author.Tests.{eq-eqb, ne_eqb, le-leb, lt-leb}
+use borrow.Author.Tests.{eq-eqb, eqb-true, le-leb, leb-true}
 use Rattle.rules.specs.declared.Call.{Call}
 use Rattle.rules.specs.declared.HeadWrite.{HeadWrite}
 use Rattle.rules.specs.declared.Device.{Device}
@@ -21,7 +21,8 @@ use Rattle.rules.specs.Text.{Line, bad, event, call_word, word_head, word_raise,
 use Rattle.text.specs.declared.line.Line.{Line as Told}
 use Rattle.text.specs.Gathered.{ZeroFrom}
 use Rattle.text.specs.Lines.{told}
-use Rattle.rules.proofs.Tests.{lt_or_ge}
+use Rattle.rules.proofs.Tests.{lt_or_ge, and_left, and_right}
+use Rattle.text.proofs.Same.{same_eq, text_three, text_four, text_five}
 
 -- the first n numbers, where those behind them are zeros
 pub first_of : (ns : List ℕ) (n : ℕ) → n ≤ length ns → ZeroFrom n ns → (k : ℕ) → get_or (take n ns) k 0 ≡ get_or ns k 0
@@ -46,51 +47,62 @@ event_or_bad P b e word ns =
     (one_of P (same word word_store && eqb n 3) _ _ (e _)
     (one_of P (same word word_hit && eqb n 6) _ _ (e _) b)))))
 
--- a test of a word and a number that came out false
-no_call : (t : Bool) (n : ℕ) → ((t ≡ true) × (4 ≤ n) × (9 < n)) ⊎ (((t ≡ true) × (n < 4)) ⊎ (t ≡ false)) → (t && (leb 4 n && leb n 9)) ≡ false
-no_call t n =
-    ⊎_elim (λ a. rw (a.0, le-leb 4 n a.1, lt-leb n 9 a.2))
-    (⊎_elim (λ b. rw (b.0, lt-leb 4 n b.1)) (λ f. rw f))
+-- a test of a word and of a number that cannot both be true
+no_test : (t u : Bool) → (t ≡ true → u ≡ true → ⊥) → (t && u) ≡ false
+no_test true true f = absurd (f refl refl)
+no_test true false f = refl
+no_test false u f = refl
 
-no_event : (t : Bool) (n k : ℕ) → ((t ≡ true) × (n ≡ k → ⊥)) ⊎ (t ≡ false) → (t && eqb n k) ≡ false
-no_event t n k = ⊎_elim (λ a. rw (a.0, ne_eqb n k a.1)) (λ f. rw f)
-
-module _ (word ns : List ℕ) (n : ℕ) (pre : (n ≤ length ns) × ZeroFrom n ns) (t₁ : Bool) (p₁ : t₁ ≡ same word call_word) where
+-- the line, by the length and the bytes of a word that a match tells, and by the number of numbers
+module _ (word ns : List ℕ) (n : ℕ) (pre : (n ≤ length ns) × ZeroFrom n ns) where
   size : length (take n ns) ≡ n
   size = length-take-le n ns pre.0
 
   at : (k : ℕ) → get_or (take n ns) k 0 ≡ get_or ns k 0
   at = first_of ns n pre.0 pre.1
 
-  pub event_call : t₁ ≡ true → 4 ≤ n → n ≤ 9 → (r : Call) → r ≡ call_of ns → Told.Event (Event.Call r) ≡ told (event_line word (take n ns))
+  pub event_call : length word ≡ 4 → get_or word 0 0 ≡ 99 → get_or word 1 0 ≡ 97 → get_or word 2 0 ≡ 108 → get_or word 3 0 ≡ 108 → 4 ≤ n → n ≤ 9 → (r : Call) → r ≡ call_of ns → Told.Event (Event.Call r) ≡ told (event_line word (take n ns))
+  unfolding event_line told same
+  event_call l h0 h1 h2 h3 a b r e = rw (size, text_four word l, h0, h1, h2, h3, le-leb 4 n a, le-leb n 9 b, e) (simp at)
+
+  pub event_head : length word ≡ 4 → get_or word 0 0 ≡ 104 → get_or word 1 0 ≡ 101 → get_or word 2 0 ≡ 97 → get_or word 3 0 ≡ 100 → n ≡ 4 → (r : HeadWrite) → r ≡ head_of ns → Told.Event (Event.Head r) ≡ told (event_line word (take n ns))
+  unfolding event_line told same
+  event_head l h0 h1 h2 h3 q r e = rw (size, text_four word l, h0, h1, h2, h3, eq-eqb n 4 q, e) (simp at)
+
+  pub event_raise : length word ≡ 5 → get_or word 0 0 ≡ 114 → get_or word 1 0 ≡ 97 → get_or word 2 0 ≡ 105 → get_or word 3 0 ≡ 115 → get_or word 4 0 ≡ 101 → n ≡ 2 → (r : Device) → r ≡ device_of ns → Told.Event (Event.Raise r) ≡ told (event_line word (take n ns))
+  unfolding event_line told same
+  event_raise l h0 h1 h2 h3 h4 q r e = rw (size, text_five word l, h0, h1, h2, h3, h4, eq-eqb n 2 q, e) (simp at)
+
+  pub event_load : length word ≡ 4 → get_or word 0 0 ≡ 108 → get_or word 1 0 ≡ 111 → get_or word 2 0 ≡ 97 → get_or word 3 0 ≡ 100 → n ≡ 2 → (r : LoadAt) → r ≡ load_of ns → Told.Event (Event.Load r) ≡ told (event_line word (take n ns))
+  unfolding event_line told same
+  event_load l h0 h1 h2 h3 q r e = rw (size, text_four word l, h0, h1, h2, h3, eq-eqb n 2 q, e) (simp at)
+
+  pub event_store : length word ≡ 5 → get_or word 0 0 ≡ 115 → get_or word 1 0 ≡ 116 → get_or word 2 0 ≡ 111 → get_or word 3 0 ≡ 114 → get_or word 4 0 ≡ 101 → n ≡ 3 → (r : StoreAt) → r ≡ store_of ns → Told.Event (Event.Store r) ≡ told (event_line word (take n ns))
+  unfolding event_line told same
+  event_store l h0 h1 h2 h3 h4 q r e = rw (size, text_five word l, h0, h1, h2, h3, h4, eq-eqb n 3 q, e) (simp at)
+
+  pub event_hit : length word ≡ 3 → get_or word 0 0 ≡ 104 → get_or word 1 0 ≡ 105 → get_or word 2 0 ≡ 116 → n ≡ 6 → (r : TsbHit) → r ≡ hit_of ns → Told.Event (Event.Hit r) ≡ told (event_line word (take n ns))
+  unfolding event_line told same
+  event_hit l h0 h1 h2 q r e = rw (size, text_three word l, h0, h1, h2, eq-eqb n 6 q, e) (simp at)
+
+  pub event_none :
+      (length word ≡ 4 → get_or word 0 0 ≡ 99 → get_or word 1 0 ≡ 97 → get_or word 2 0 ≡ 108 → get_or word 3 0 ≡ 108 → 4 ≤ n → n ≤ 9 → ⊥)
+      → (length word ≡ 4 → get_or word 0 0 ≡ 104 → get_or word 1 0 ≡ 101 → get_or word 2 0 ≡ 97 → get_or word 3 0 ≡ 100 → n ≡ 4 → ⊥)
+      → (length word ≡ 5 → get_or word 0 0 ≡ 114 → get_or word 1 0 ≡ 97 → get_or word 2 0 ≡ 105 → get_or word 3 0 ≡ 115 → get_or word 4 0 ≡ 101 → n ≡ 2 → ⊥)
+      → (length word ≡ 4 → get_or word 0 0 ≡ 108 → get_or word 1 0 ≡ 111 → get_or word 2 0 ≡ 97 → get_or word 3 0 ≡ 100 → n ≡ 2 → ⊥)
+      → (length word ≡ 5 → get_or word 0 0 ≡ 115 → get_or word 1 0 ≡ 116 → get_or word 2 0 ≡ 111 → get_or word 3 0 ≡ 114 → get_or word 4 0 ≡ 101 → n ≡ 3 → ⊥)
+      → (length word ≡ 3 → get_or word 0 0 ≡ 104 → get_or word 1 0 ≡ 105 → get_or word 2 0 ≡ 116 → n ≡ 6 → ⊥)
+      → Told.Bad ≡ told (event_line word (take n ns))
   unfolding event_line told
-  event_call h a b r e = rw (size, ← p₁, h, le-leb 4 n a, le-leb n 9 b, e) (simp at)
+  event_none a b c d e f =
+      rw (
+        size,
+        no_test (same word call_word) (leb 4 n && leb n 9) (λ p q. let g : word ≡ call_word = same_eq word call_word p in a (rw g) (rw g) (rw g) (rw g) (rw g) (leb-true 4 n (and_left _ _ q)) (leb-true n 9 (and_right (leb 4 n) _ q))),
+        no_test (same word word_head) (eqb n 4) (λ p q. let g : word ≡ word_head = same_eq word word_head p in b (rw g) (rw g) (rw g) (rw g) (rw g) (eqb-true n 4 q)),
+        no_test (same word word_raise) (eqb n 2) (λ p q. let g : word ≡ word_raise = same_eq word word_raise p in c (rw g) (rw g) (rw g) (rw g) (rw g) (rw g) (eqb-true n 2 q)),
+        no_test (same word word_load) (eqb n 2) (λ p q. let g : word ≡ word_load = same_eq word word_load p in d (rw g) (rw g) (rw g) (rw g) (rw g) (eqb-true n 2 q)),
+        no_test (same word word_store) (eqb n 3) (λ p q. let g : word ≡ word_store = same_eq word word_store p in e (rw g) (rw g) (rw g) (rw g) (rw g) (rw g) (eqb-true n 3 q)),
+        no_test (same word word_hit) (eqb n 6) (λ p q. let g : word ≡ word_hit = same_eq word word_hit p in f (rw g) (rw g) (rw g) (rw g) (eqb-true n 6 q)),
+      )
 
-  module _ (f₁ : ((t₁ ≡ true) × (4 ≤ n) × (9 < n)) ⊎ (((t₁ ≡ true) × (n < 4)) ⊎ (t₁ ≡ false))) (t₂ : Bool) (p₂ : t₂ ≡ same word word_head) where
-    pub event_head : t₂ ≡ true → n ≡ 4 → (r : HeadWrite) → r ≡ head_of ns → Told.Event (Event.Head r) ≡ told (event_line word (take n ns))
-    unfolding event_line told
-    event_head h k r e = rw (size, ← p₁, no_call t₁ n f₁, ← p₂, h, eq-eqb n 4 k, e) (simp at)
-
-    module _ (f₂ : ((t₂ ≡ true) × (n ≡ 4 → ⊥)) ⊎ (t₂ ≡ false)) (t₃ : Bool) (p₃ : t₃ ≡ same word word_raise) where
-      pub event_raise : t₃ ≡ true → n ≡ 2 → (r : Device) → r ≡ device_of ns → Told.Event (Event.Raise r) ≡ told (event_line word (take n ns))
-      unfolding event_line told
-      event_raise h k r e = rw (size, ← p₁, no_call t₁ n f₁, ← p₂, no_event t₂ n 4 f₂, ← p₃, h, eq-eqb n 2 k, e) (simp at)
-
-      module _ (f₃ : ((t₃ ≡ true) × (n ≡ 2 → ⊥)) ⊎ (t₃ ≡ false)) (t₄ : Bool) (p₄ : t₄ ≡ same word word_load) where
-        pub event_load : t₄ ≡ true → n ≡ 2 → (r : LoadAt) → r ≡ load_of ns → Told.Event (Event.Load r) ≡ told (event_line word (take n ns))
-        unfolding event_line told
-        event_load h k r e = rw (size, ← p₁, no_call t₁ n f₁, ← p₂, no_event t₂ n 4 f₂, ← p₃, no_event t₃ n 2 f₃, ← p₄, h, eq-eqb n 2 k, e) (simp at)
-
-        module _ (f₄ : ((t₄ ≡ true) × (n ≡ 2 → ⊥)) ⊎ (t₄ ≡ false)) (t₅ : Bool) (p₅ : t₅ ≡ same word word_store) where
-          pub event_store : t₅ ≡ true → n ≡ 3 → (r : StoreAt) → r ≡ store_of ns → Told.Event (Event.Store r) ≡ told (event_line word (take n ns))
-          unfolding event_line told
-          event_store h k r e = rw (size, ← p₁, no_call t₁ n f₁, ← p₂, no_event t₂ n 4 f₂, ← p₃, no_event t₃ n 2 f₃, ← p₄, no_event t₄ n 2 f₄, ← p₅, h, eq-eqb n 3 k, e) (simp at)
-
-          module _ (f₅ : ((t₅ ≡ true) × (n ≡ 3 → ⊥)) ⊎ (t₅ ≡ false)) (t₆ : Bool) (p₆ : t₆ ≡ same word word_hit) where
-            pub event_hit : t₆ ≡ true → n ≡ 6 → (r : TsbHit) → r ≡ hit_of ns → Told.Event (Event.Hit r) ≡ told (event_line word (take n ns))
-            unfolding event_line told
-            event_hit h k r e = rw (size, ← p₁, no_call t₁ n f₁, ← p₂, no_event t₂ n 4 f₂, ← p₃, no_event t₃ n 2 f₃, ← p₄, no_event t₄ n 2 f₄, ← p₅, no_event t₅ n 3 f₅, ← p₆, h, eq-eqb n 6 k, e) (simp at)
-
-            pub event_none : ((t₆ ≡ true) × (n ≡ 6 → ⊥)) ⊎ (t₆ ≡ false) → Told.Bad ≡ told (event_line word (take n ns))
-            unfolding event_line told
-            event_none f₆ = rw (size, ← p₁, no_call t₁ n f₁, ← p₂, no_event t₂ n 4 f₂, ← p₃, no_event t₃ n 2 f₃, ← p₄, no_event t₄ n 2 f₄, ← p₅, no_event t₅ n 3 f₅, ← p₆, no_event t₆ n 6 f₆)
+pub ruleset named = (event_call, event_head, event_raise, event_load, event_store, event_hit, event_none)

@@ -1,4 +1,5 @@
 pub mod Stores
+pub mod Same
 pub mod PutLaws
 pub mod PrintLaws
 pub mod PieceLaws

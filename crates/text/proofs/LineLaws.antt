@@ -7,7 +7,7 @@ use mathlib.Core.List.{List, []}
 use Prim.Native.Nat.{ℕ, ◌+◌, ◌<◌, ◌≤◌}
 use native.Mathlib.Nat.{zero-add}
 use lib.Dec.{leb}
-use lib.ListN.{length, take, drop}
+use lib.ListN.{length, get_or, take, drop}
 use lib.Seq.{sets}
 use borrow.Author.Tests.{leb-true, le-leb, lt-leb}
 use Rattle.rules.specs.Text.{Line, bad, image, event, word_image, same, fields, image_or, event_or, line_of, pieces, parse}
@@ -16,6 +16,7 @@ use Rattle.text.specs.declared.line.Line.{Line as Told}
 use Rattle.text.specs.Pieces.{first_length, behind, image_at}
 use Rattle.text.specs.Lines.{told, image_of}
 use Rattle.text.proofs.EventLaws.{event_or_bad}
+use Rattle.text.proofs.Same.{same_eq, text_five}
 use Rattle.text.proofs.PieceLaws.{pieces_split, joined_behind}
 
 -- an image that is right or not
@@ -42,12 +43,25 @@ module _ (s : List ℕ) where
         let k : end ≡ first_length s = e ∙ zero-add _ in
         rw (le-leb (length s) 2048 h, k, pieces_split s, joined_behind s)
 
-    module _ (t : Bool) (p : t ≡ same (take end s) word_image) (r : Told) where
-      pub parse_image : t ≡ true → r ≡ told (image_or (image_at (drop end s))) → r ≡ told (parse s)
-      parse_image q f = f ∙ rw (cut, ← p, q)
+    module _ (r : Told) where
+      pub parse_image : length (take end s) ≡ 5 → get_or (take end s) 0 0 ≡ 105 → get_or (take end s) 1 0 ≡ 109 → get_or (take end s) 2 0 ≡ 97
+          → get_or (take end s) 3 0 ≡ 103 → get_or (take end s) 4 0 ≡ 101 → r ≡ told (image_or (image_at (drop end s))) → r ≡ told (parse s)
+      unfolding same
+      parse_image l h₀ h₁ h₂ h₃ h₄ f =
+          let q : same (take end s) word_image ≡ true = rw (text_five (take end s) l, h₀, h₁, h₂, h₃, h₄) in
+          f ∙ rw (cut, q)
 
-      pub parse_event : t ≡ false → r ≡ told (event_or (take end s) (fields (behind (drop end s)))) → r ≡ told (parse s)
-      parse_event q f = f ∙ rw (cut, ← p, q)
+      pub parse_event :
+          (length (take end s) ≡ 5 → get_or (take end s) 0 0 ≡ 105 → get_or (take end s) 1 0 ≡ 109 → get_or (take end s) 2 0 ≡ 97
+          → get_or (take end s) 3 0 ≡ 103 → get_or (take end s) 4 0 ≡ 101 → ⊥)
+          → r ≡ told (event_or (take end s) (fields (behind (drop end s)))) → r ≡ told (parse s)
+      parse_event n f = f ∙ go (same (take end s) word_image) refl
+        where
+          go : (t : Bool) → same (take end s) word_image ≡ t → told (event_or (take end s) (fields (behind (drop end s)))) ≡ told (parse s)
+          go true q = let g : take end s ≡ word_image = same_eq (take end s) word_image q in absurd (n (rw g) (rw g) (rw g) (rw g) (rw g) (rw g))
+          go false q = rw (cut, q)
+
+pub ruleset parsed = (parse_long, parse_image, parse_event)
 
 -- an event is no image
 event_no_image : (word : List ℕ) (o : Option (List ℕ)) → Told.Image ≡ told (event_or word o) → ⊥

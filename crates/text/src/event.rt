@@ -7,101 +7,91 @@ ghost use Rattle.text.specs.Lines.{told};
 
 use crate::fields::{FIELDS, read_fields};
 use crate::line::Line;
-use crate::piece::same_text;
 use rules::{Call, Device, Event, HeadWrite, LoadAt, StoreAt, TsbHit};
 
 fn call_of(ns: [u64; FIELDS]) -> Call
     ensures { result ≡ call_of ns }
 {
+    let [guest, cpu, trap, function, arg0, arg1, arg2, arg3, arg4] = ns;
     Call {
-        guest: ns[0],
-        cpu: ns[1],
-        trap: ns[2],
-        function: ns[3],
-        arg0: ns[4],
-        arg1: ns[5],
-        arg2: ns[6],
-        arg3: ns[7],
-        arg4: ns[8],
+        guest,
+        cpu,
+        trap,
+        function,
+        arg0,
+        arg1,
+        arg2,
+        arg3,
+        arg4,
     }
 }
 
 fn head_of(ns: [u64; FIELDS]) -> HeadWrite
     ensures { result ≡ head_of ns }
 {
+    let [guest, cpu, queue, value, ..] = ns;
     HeadWrite {
-        guest: ns[0],
-        cpu: ns[1],
-        queue: ns[2],
-        value: ns[3],
+        guest,
+        cpu,
+        queue,
+        value,
     }
 }
 
 fn device_of(ns: [u64; FIELDS]) -> Device
     ensures { result ≡ device_of ns }
 {
-    Device {
-        devhandle: ns[0],
-        devino: ns[1],
-    }
+    let [devhandle, devino, ..] = ns;
+    Device { devhandle, devino }
 }
 
 fn load_of(ns: [u64; FIELDS]) -> LoadAt
     ensures { result ≡ load_of ns }
 {
-    LoadAt {
-        guest: ns[0],
-        address: ns[1],
-    }
+    let [guest, address, ..] = ns;
+    LoadAt { guest, address }
 }
 
 fn store_of(ns: [u64; FIELDS]) -> StoreAt
     ensures { result ≡ store_of ns }
 {
+    let [guest, address, value, ..] = ns;
     StoreAt {
-        guest: ns[0],
-        address: ns[1],
-        value: ns[2],
+        guest,
+        address,
+        value,
     }
 }
 
 fn hit_of(ns: [u64; FIELDS]) -> TsbHit
     ensures { result ≡ hit_of ns }
 {
+    let [guest, cpu, side, context, index, ticks, ..] = ns;
     TsbHit {
-        guest: ns[0],
-        cpu: ns[1],
-        side: ns[2],
-        context: ns[3],
-        index: ns[4],
-        ticks: ns[5],
+        guest,
+        cpu,
+        side,
+        context,
+        index,
+        ticks,
     }
 }
 
 // The event of n numbers. Only a call may have fewer than its type has: those that are missing are 0.
+#[tactic(auto, using(crate::proofs::EventLaws::named))]
 fn event_of(word: &[u8], n: usize, ns: [u64; FIELDS]) -> Line
     requires { (n ≤ length ns) × ZeroFrom n ns }
     ensures { result ≡ told (event_line word.now (take n ns)) }
 {
-    if same_text(word, b"call") && 4 <= n && n <= 9 {
-        return Line::Event(Event::Call(call_of(ns)));
+    match (word, n) {
+        (b"call", 4..=9) => Line::Event(Event::Call(call_of(ns))),
+        (b"head", 4) => Line::Event(Event::Head(head_of(ns))),
+        (b"raise", 2) => Line::Event(Event::Raise(device_of(ns))),
+        (b"load", 2) => Line::Event(Event::Load(load_of(ns))),
+        (b"store", 3) => Line::Event(Event::Store(store_of(ns))),
+        (b"hit", 6) => Line::Event(Event::Hit(hit_of(ns))),
+        _ => Line::Bad,
     }
-    if same_text(word, b"head") && n == 4 {
-        return Line::Event(Event::Head(head_of(ns)));
-    }
-    if same_text(word, b"raise") && n == 2 {
-        return Line::Event(Event::Raise(device_of(ns)));
-    }
-    if same_text(word, b"load") && n == 2 {
-        return Line::Event(Event::Load(load_of(ns)));
-    }
-    if same_text(word, b"store") && n == 3 {
-        return Line::Event(Event::Store(store_of(ns)));
-    }
-    if same_text(word, b"hit") && n == 6 {
-        return Line::Event(Event::Hit(hit_of(ns)));
-    }
-    Line::Bad
 }
 
 // A line whose first word ends at `end` and is not that of an image.

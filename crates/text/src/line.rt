@@ -7,7 +7,7 @@ ghost use Rattle.text.specs.Lines.{told, image_of};
 
 use crate::digits::read_image;
 use crate::event::event_line;
-use crate::piece::{piece_end, same_text};
+use crate::piece::piece_end;
 use rules::Event;
 
 // The bytes of an image are read by image_bytes.
@@ -31,6 +31,7 @@ fn image_line(s: &[u8], end: usize) -> Line
 }
 
 // A line without its line feed.
+#[tactic(auto, using(crate::proofs::LineLaws::parsed))]
 pub fn parse_line(s: &[u8]) -> Line
     ensures { result ≡ told (parse s.now) }
 {
@@ -38,10 +39,11 @@ pub fn parse_line(s: &[u8]) -> Line
         return Line::Bad;
     }
     let end = piece_end(s, 0);
-    if same_text(&s[..end], b"image") {
-        return image_line(s, end);
+    let word = &s[..end];
+    match word {
+        b"image" => image_line(s, end),
+        _ => event_line(s, end),
     }
-    event_line(s, end)
 }
 
 // Writes the bytes of an image line to the front of out, and gives their number: 0, with nothing written, for any other line.

@@ -117,8 +117,8 @@ pub fn put_loading(answer: Result<(), ImageRefusal>, at: usize, out: &mut [u8]) 
     requires { at + 96 ≤ length out.old }
     ensures { (result ≡ at + length (loading_text answer)) × (out.new ≡ sets out.old at (loading_text answer)) }
 {
-    let ns = loading_numbers(answer);
-    put_numbers([ns[0], ns[1], ns[2], 0, 0], 3, at, out)
+    let [status, one, two] = loading_numbers(answer);
+    put_numbers([status, one, two, 0, 0], 3, at, out)
 }
 
 // The answer to a line that is none.

@@ -3,4 +3,4 @@ use Rattle.reasons.proofs.WordLaws.{whole_reason}
 use Rattle.reasons.proofs.reason.put_reason.Goals as goal
 
 pub returns : goal.returns
-returns c = whole_reason _ _ _ _ _ c.unfed_end-end.result c.unfed_end-end.ensures.0 c.put_reason_of.ensures
+returns c = whole_reason _ _ _ _ _ _ c.unfed.ensures c.put_reason_of.ensures

@@ -3,4 +3,4 @@ use Rattle.text.proofs.PrintLaws.{loading_printed}
 use Rattle.text.proofs.print.put_loading.Goals as goal
 
 pub returns : goal.returns
-returns c = loading_printed _ _ _ c.loading_numbers-ns.ensures _ _ _ c.put_numbers.ensures
+returns c = loading_printed _ _ _ c.loading_numbers.ensures _ _ _ c.put_numbers.ensures
