@@ -1,9 +1,7 @@
 -- An event's word, by the length and the bytes that a match on a text tells.
-use Rattle.std.proofs.Common.{◌≡◌, ◌<◌, ◌≤◌, Option, Some, None, List, [], ◌∷◌, ℕ, Bool, true, false, length, get_or, refl, sym, ◌∙◌, arith}
+use Rattle.std.proofs.Common.{◌≡◌, Some, None, List, ℕ, Bool, true, false, length, get_or, refl}
 use Rattle.std.specs.Prelude.{if◌then◌else◌}
-use Rattle.std.proofs.Common.{eqb}
 use Rattle.rules.specs.Text.{call_word, word_head, word_raise, word_load, word_store, word_hit, same}
-use Rattle.reasons.specs.declared.fault.Word.{Word}
 use Rattle.reasons.specs.declared.fault.Word.TheVariants.{Call, Head, Raise, Load, Store, Hit}
 use Rattle.reasons.specs.Faults.{word_of}
 use Rattle.text.proofs.Same.{same_eq, text_three, text_four, text_five}
