@@ -44,7 +44,8 @@ fn extents_blank(e: Extents) -> bool
     }
 }
 
-// One by one, and not `cpu == blank::cpus()`: the proof has the lengths of a cpu's own lists only where it has that cpu alone.
+// One by one. Tried: `cpu == blank::cpus()`; the proof did not close, as it has the lengths of a cpu's own lists only where it has
+// that cpu alone.
 fn cpus_blank(cpu: [Cpu; CPUS]) -> bool
     ensures { result ≡ all_below cpu_limit (λ c. cpu_blank (get_or cpu c hollow_cpu)) }
 {
