@@ -63,6 +63,7 @@ pub(crate) fn why_fields(s: &[u8], end: usize, word: Word) -> Option<Fault>
 {
     let mut count = 0;
     let mut at = end;
+    // (A while, as in text's read_fields: it goes from piece to piece.)
     while at < s.len() {
         let next = piece_end(s, at + 1);
         count += 1;

@@ -26,6 +26,7 @@ pub fn read_fields(s: &[u8], end: usize) -> Option<Fields>
     let mut list = [0; FIELDS];
     let mut count = 0;
     let mut at = end;
+    // (A while: it goes from piece to piece. `split` gives a piece of no bytes at the line's end too, where there is no field.)
     while at < s.len() {
         if count == FIELDS {
             return None;

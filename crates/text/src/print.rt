@@ -8,6 +8,7 @@ ghost use Rattle.text.specs.Printed.{numbers_text, answer_text, loading_text, ba
 use crate::put::{put_number, put_text};
 use rules::{Answer, ImageRefusal, Refusal, WriteRefusal};
 
+// (Functions, and no From, which only the crate of the type, rules, could have: it is plain data.)
 #[tactic(auto, unfolding(rules::specs::Statuses::status_of))]
 fn status_of(why: Refusal) -> u64
     ensures { result ≡ status_of why }
