@@ -1,6 +1,6 @@
 -- Tables that keep the rules are written as an image that is accepted, and that gives them as after loading: each row that is written
 -- stands in the bytes where the reader looks for it.
-use Rattle.std.specs.Prelude.{if◌then◌else◌}
+use Rattle.std.specs.Prelude.{if◌then◌else◌, Ok}
 use mathlib.Core.Path.{◌≡◌, refl, sym, ap, ◌∙◌}
 use mathlib.Core.Bool.{Bool, true, false}
 use mathlib.Core.Logic.{⊎_elim}
@@ -18,7 +18,6 @@ use Rattle.rules.specs.declared.Extent.{Extent}
 use Rattle.rules.specs.declared.Guest.{Guest}
 use Rattle.rules.specs.declared.ImageRefusal.{ImageRefusal}
 use Rattle.rules.specs.declared.ImageRefusal.TheVariants.{HeaderOrCount}
-use Rattle.rules.specs.declared.Loading.{Loading}
 use Rattle.rules.specs.declared.Loaded.{Loaded}
 use Rattle.rules.specs.declared.Source.{Source}
 use Rattle.rules.specs.declared.Tables.{Tables}
@@ -316,7 +315,7 @@ module _ (tables : Tables) (whole : Whole tables) (keep : keep_rules tables ≡ 
       )
 
 -- Tables that are written are loaded again, with every setting as after loading.
-pub loaded_again_lem : (tables : Tables) → Whole tables → keep_rules tables ≡ true → 1 ≤ tables.guests → load (image_of tables) ≡ record { answer = Loading.Accepted; tables = as_loaded tables }
+pub loaded_again_lem : (tables : Tables) → Whole tables → keep_rules tables ≡ true → 1 ≤ tables.guests → load (image_of tables) ≡ record { answer = Ok tt; tables = as_loaded tables }
 unfolding load read_image
 loaded_again_lem tables whole keep some = rw (fields_read tables whole keep some, judged_read tables whole keep)
 

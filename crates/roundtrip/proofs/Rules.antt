@@ -1,4 +1,5 @@
 -- What the rules on tables tell of the numbers that an image has, and that they find nothing in the tables as after loading.
+use Rattle.std.proofs.Common.{Option, Some, None}
 use mathlib.Core.Path.{◌≡◌, refl, ap, ◌∙◌}
 use mathlib.Core.Bool.{Bool, true, false, ◌&&◌, not, true≢false}
 use mathlib.Core.Logic.{⊎_elim}
@@ -8,7 +9,6 @@ use lib.Dec.{leb, ltb, eqb}
 use lib.ListN.{get_or-map}
 use borrow.Author.Tests.{leb-true, ltb-true, lt-ltb, le-ltb, eqb-true, not-true}
 use Rattle.rules.specs.declared.Extents.{Extents}
-use Rattle.rules.specs.declared.Found.{Found}
 use Rattle.rules.specs.declared.Guest.{Guest}
 use Rattle.rules.specs.declared.Plant.{Plant}
 use Rattle.rules.specs.declared.Source.{Source}
@@ -194,7 +194,7 @@ module _ (t : Tables) where
 
     -- the rules of an image find nothing
     none_breaks : (rule : Extents → ℕ → Bool) → ((g : ℕ) → g < t.guests → (i : ℕ) → i < (guest_at t g).extents.extents → rule (guest_at t g).extents i ≡ true)
-        → first_breaking rule (as_loaded t) ≡ Found.Nothing
+        → first_breaking rule (as_loaded t) ≡ None
     unfolding first_breaking breaks
     none_breaks rule f =
         loaded_breaking rule
@@ -207,18 +207,18 @@ module _ (t : Tables) where
         (λ past. rw (le-ltb (k % extent_limit) (guest_at t (k / extent_limit)).extents.extents (omega (arith, (guest_absent (k / extent_limit) past (omega arith)).extents))))
         (lt_or_ge (k / extent_limit) t.guests))
 
-    not_found : (x : Found) → is_found x ≡ false → x ≡ Found.Nothing
-    not_found Found.Nothing e = refl
-    not_found (Found.At k) e = absurd (true≢false e)
+    not_found : (x : Option ℕ) → is_found x ≡ false → x ≡ None
+    not_found None e = refl
+    not_found (Some k) e = absurd (true≢false e)
 
-    pub numbers_right : first_breaking right_at (as_loaded t) ≡ Found.Nothing
+    pub numbers_right : first_breaking right_at (as_loaded t) ≡ None
     numbers_right = none_breaks right_at (λ g h. (guest_there g h).right)
 
-    pub order_right : first_breaking follows (as_loaded t) ≡ Found.Nothing
+    pub order_right : first_breaking follows (as_loaded t) ≡ None
     order_right = none_breaks follows (λ g h. (guest_there g h).order)
 
-    pub pages_right : shares_before (as_loaded t) ≡ Found.Nothing
+    pub pages_right : shares_before (as_loaded t) ≡ None
     pages_right = loaded_pages ∙ not_found (shares_before t) (pages_apart t keep)
 
-    pub names_right : named_before (as_loaded t) ≡ Found.Nothing
+    pub names_right : named_before (as_loaded t) ≡ None
     names_right = loaded_names ∙ not_found (named_before t) names_apart
