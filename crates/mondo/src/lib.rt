@@ -184,7 +184,7 @@ fn send_all(
 }
 
 // An answer, with the tails of the 0x3c rings there.
-#[tactic(auto, unfolding(crate::specs::Steps::sent_by, plants::specs::Changes::done_by))]
+#[tactic(auto, unfolding(crate::specs::Steps::sent_by))]
 fn told_tails(answer: Answer, tails: [u16; CPUS]) -> Done
     ensures { result ≡ sent_by answer tails }
 {

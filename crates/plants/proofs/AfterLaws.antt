@@ -31,7 +31,7 @@ module _ (plant : Plant) (d : Done) where
   after_disabled v off e f = rw (e, f)
 
   module _ (c : ℕ) (part : CpuChange) (e : d.change ≡ Change.Cpu c part) where
-    pub after_cpu : (new : Cpu) → c < cpu_limit → new ≡ cpu_after (cpu_at plant c) d.tsbs part → with_cpu plant c new ≡ plant_after plant d
+    pub after_cpu : (new : Cpu) → c < cpu_limit → new ≡ cpu_after (cpu_at plant c) part → with_cpu plant c new ≡ plant_after plant d
     unfolding plant_after changed_by
     after_cpu new h f = rw (e, lt-ltb _ _ h, f)
 
@@ -49,7 +49,7 @@ module _ (plant : Plant) (d : Done) where
     after_no_source h = rw (e, le-ltb _ _ h)
 
   module _ (i : ℕ) (source : Source) (c : ℕ) (held : QueueRecord) (e : d.change ≡ Change.Delivered i source c held) where
-    pub after_delivered : (new : Cpu) → i < source_limit → c < cpu_limit → new ≡ cpu_after (cpu_at plant c) d.tsbs (CpuChange.Queue 1 held)
+    pub after_delivered : (new : Cpu) → i < source_limit → c < cpu_limit → new ≡ cpu_after (cpu_at plant c) (CpuChange.Queue 1 held)
         → with_cpu (with_sources plant (set plant.source i source)) c new ≡ plant_after plant d
     unfolding plant_after changed_by cpu_after with_source with_queue
     after_delivered new h k f = rw (e, lt-ltb _ _ h, lt-ltb _ _ k, f)
@@ -62,6 +62,6 @@ module _ (plant : Plant) (d : Done) where
     unfolding plant_after changed_by
     after_no_device h = rw (e, le-ltb _ _ h)
 
-  pub after_tails : (next : Plant) → d.change ≡ Change.Tails → next ≡ with_tails plant d.tails → next ≡ plant_after plant d
+  pub after_tails : (next : Plant) (tails : List ℕ) → d.change ≡ Change.Tails tails → next ≡ with_tails plant tails → next ≡ plant_after plant d
   unfolding plant_after changed_by
-  after_tails next e f = rw (e, f)
+  after_tails next tails e f = rw (e, f)

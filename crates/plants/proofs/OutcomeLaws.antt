@@ -34,24 +34,24 @@ module _ (plant : Plant) (x : Ruling Outcome) where
   -- d is what the code gives back
   module _ (d : Done) where
     pub tells : (a : Answer) → d ≡ done_by a Change.Nothing → saying plant a ≡ outcome_of plant x → quietly plant d ≡ outcome_of plant x
-    unfolding plant_after changed_by done_by
+    unfolding plant_after changed_by
     tells a g e = rw g e
 
     pub tells_refusal : (r : Refusal) → x ≡ refused r → d ≡ done_by (Refused r) Change.Nothing → quietly plant d ≡ outcome_of plant x
     tells_refusal r e g = tells (Refused r) g (refuses r e)
 
     -- m is the rule's record after
-    pub changes : (a : Answer) (change : Change) (m : Plant) → d ≡ done_by a change → changed_by plant blank_tsbs (replicate cpu_limit 0) change ≡ m → x ≡ says a m → quietly plant d ≡ outcome_of plant x
-    unfolding plant_after done_by
+    pub changes : (a : Answer) (change : Change) (m : Plant) → d ≡ done_by a change → changed_by plant change ≡ m → x ≡ says a m → quietly plant d ≡ outcome_of plant x
+    unfolding plant_after
     changes a change m g f e = rw (g, e, f)
 
     -- a cpu's statistics address, a source
     module _ (a : Answer) where
       pub statistics_changes : (c address : ℕ) → d ≡ done_by a (Change.Cpu c (CpuChange.Statistics address)) → c < cpu_limit → x ≡ says a (with_statistics plant c address) → quietly plant d ≡ outcome_of plant x
-      statistics_changes c address g h e = changes a _ _ g (statistics_after plant _ _ c h address) e
+      statistics_changes c address g h e = changes a _ _ g (statistics_after plant c h address) e
 
       pub source_changes : (i : ℕ) (s : Source) → d ≡ done_by a (Change.Source i s) → i < source_limit → x ≡ says a (with_source plant i s) → quietly plant d ≡ outcome_of plant x
-      source_changes i s g h e = changes a _ _ g (source_after plant _ _ i s h) e
+      source_changes i s g h e = changes a _ _ g (source_after plant i s h) e
 
 -- a call that writes nothing leaves the memory as it was
 module _ (extents : Extents) (plant : Plant) (x : Ruling Outcome) (m : List ℕ) (d : Done) where
@@ -75,7 +75,7 @@ unfolding done_by
 answer_done a change = refl
 
 module _ (plant : Plant) (a : Answer) where
-  pub change_done : (change : Change) → plant_after plant (done_by a change) ≡ changed_by plant blank_tsbs (replicate cpu_limit 0) change
+  pub change_done : (change : Change) → plant_after plant (done_by a change) ≡ changed_by plant change
   unfolding plant_after done_by
   change_done change = refl
 
@@ -89,14 +89,14 @@ module _ (plant : Plant) (a : Answer) where
 
   pub queue_done : (c q : ℕ) (held : QueueRecord) → c < cpu_limit → q < queue_limit → plant_after plant (done_by a (Change.Cpu c (CpuChange.Queue q held))) ≡ with_queue plant c q held
   unfolding plant_after done_by
-  queue_done c q held h k = queue_after plant _ _ c h q held k
+  queue_done c q held h k = queue_after plant c h q held k
 
   pub statistics_done : (c address : ℕ) → c < cpu_limit → plant_after plant (done_by a (Change.Cpu c (CpuChange.Statistics address))) ≡ with_statistics plant c address
   unfolding plant_after done_by
-  statistics_done c address h = statistics_after plant _ _ c h address
+  statistics_done c address h = statistics_after plant c h address
 
   pub source_done : (i : ℕ) (s : Source) → i < source_limit → plant_after plant (done_by a (Change.Source i s)) ≡ with_source plant i s
   unfolding plant_after done_by
-  source_done i s h = source_after plant _ _ i s h
+  source_done i s h = source_after plant i s h
 
 pub ruleset outcomes = (answer_done, nothing_done, versions_done, queue_done, statistics_done, source_done)

@@ -6,6 +6,6 @@ mod change;
 mod parts;
 mod rings;
 
-pub use change::{Change, CpuChange, Done, cpu_after, done_by, plant_after, told};
+pub use change::{Change, CpuChange, Done, change_plant, cpu_after, done_by, plant_after, told};
 pub use parts::{all_disabled, at_tail, cpu_at_tail};
 pub use rings::put_entry;

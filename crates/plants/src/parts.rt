@@ -42,14 +42,12 @@ pub fn cpu_at_tail(cpu: Cpu, tail: u16) -> Cpu
     next
 }
 
-// Each cpu that is there with the tail of its 0x3c ring where the list says.
-pub(crate) fn with_tails(plant: Plant, tails: [u16; CPUS]) -> Plant
-    requires { plant.cpus ≤ cpu_limit }
-    ensures { result ≡ with_tails plant tails }
+// Puts the tail of the 0x3c ring of each cpu that is there where the list says.
+pub(crate) fn set_tails(plant: &mut Plant, tails: [u16; CPUS])
+    requires { plant.old.cpus ≤ cpu_limit }
+    ensures { plant.new ≡ with_tails plant.old tails }
 {
-    let mut next = plant;
     for c in 0..usize::from(plant.cpus) {
-        next.cpu[c] = cpu_at_tail(next.cpu[c], tails[c]);
+        plant.cpu[c] = cpu_at_tail(plant.cpu[c], tails[c]);
     }
-    next
 }
