@@ -89,7 +89,7 @@ module _ (extents : Extents) (own : Cpu) (m : List ℕ) (side context index tick
         pub hit_counted : (own.statistics ≡ 0 → ⊥) → (at : ℕ) → at ≡ own.statistics + hits_offset side context index
             → (m' : List ℕ) → m' ≡ apply (present extents) m (adds (byte_at (present extents) m) at 1 ∷ adds (byte_at (present extents) m) (at + 8) ticks ∷ [])
             → d ≡ done_by Done Change.Nothing → Follows extents plant rule m d m'
-        unfolding tsb_hit plant_after changed_by
+        unfolding tsb_hit plant_after changed_by done_by
         hit_counted z at e m' w g =
             rw (le-leb side 1 s, le-leb context 1 c, ← p, not-false t n, o, ne_eqb own.statistics 0 z, ← e, g)
             (record { answer = refl; plant = refl; memory = w })

@@ -134,7 +134,7 @@ module _ (extents : Extents) (plant : Plant) (m : List ℕ) (cpu ntsb pointer : 
 
   pub set_right : (r : Result Tsbs Refusal) (l : Tsbs) (part : CpuChange) → new_tsbs (sight_of (present extents) m) ntsb pointer ≡ ruled r → r ≡ Ok l → part ≡ how l → d ≡ done_by Done (Change.Cpu cpu part)
       → Follows extents plant (set_tsbs (sight_of (present extents) m) plant cpu ntsb pointer how) m d m
-  unfolding set_tsbs ruled plant_after
+  unfolding set_tsbs ruled plant_after done_by
   set_right r l part f e p g = quiet extents plant _ m d (rw (f, e, g, p))
 
   -- w is what the rule makes of the record

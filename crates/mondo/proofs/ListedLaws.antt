@@ -77,13 +77,13 @@ module _ (extents : Extents) (plant : Plant) (m cs : List ℕ) (cpu count list a
   module _ (h : t ≡ Ok tt) (packet : List ℕ) (p : packet ≡ bytes_from (byte_at (present extents) m) at 64) (tails : List ℕ) (all : Bool) (m' : List ℕ)
       (g : Sends extents (send_all plant cs packet list) m (record { plant = with_tails plant tails; all = all }) m') (d : Gave) where
     pub listed_sent : all ≡ true → d ≡ done_by Done (Change.Tails tails) → Follows extents plant (mondo_sent (sight_of (present extents) m) plant cpu count list at) m d m'
-    unfolding mondo_sent plant_after changed_by
+    unfolding mondo_sent plant_after changed_by done_by
     listed_sent k n =
         rw (n, cpus_same _ list cs count l e, judged_right asked t f h, ← p, ← e)
         (record { answer = rw (← g.all, k); plant = g.plant; memory = g.memory })
 
     pub listed_left : all ≡ false → d ≡ done_by (Refused EWOULDBLOCK) (Change.Tails tails) → Follows extents plant (mondo_sent (sight_of (present extents) m) plant cpu count list at) m d m'
-    unfolding mondo_sent plant_after changed_by
+    unfolding mondo_sent plant_after changed_by done_by
     listed_left k n =
         rw (n, cpus_same _ list cs count l e, judged_right asked t f h, ← p, ← e)
         (record { answer = rw (← g.all, k); plant = g.plant; memory = g.memory })

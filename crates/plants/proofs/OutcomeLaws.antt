@@ -34,7 +34,7 @@ module _ (plant : Plant) (x : Ruling Outcome) where
   -- d is what the code gives back
   module _ (d : Done) where
     pub tells : (a : Answer) → d ≡ done_by a Change.Nothing → saying plant a ≡ outcome_of plant x → quietly plant d ≡ outcome_of plant x
-    unfolding plant_after changed_by
+    unfolding plant_after changed_by done_by
     tells a g e = rw g e
 
     pub tells_refusal : (r : Refusal) → x ≡ refused r → d ≡ done_by (Refused r) Change.Nothing → quietly plant d ≡ outcome_of plant x
@@ -42,7 +42,7 @@ module _ (plant : Plant) (x : Ruling Outcome) where
 
     -- m is the rule's record after
     pub changes : (a : Answer) (change : Change) (m : Plant) → d ≡ done_by a change → changed_by plant change ≡ m → x ≡ says a m → quietly plant d ≡ outcome_of plant x
-    unfolding plant_after
+    unfolding plant_after done_by
     changes a change m g f e = rw (g, e, f)
 
     -- a cpu's statistics address, a source

@@ -37,6 +37,7 @@ pub struct Done {
 }
 
 // An answer, and what changes.
+#[tactic(auto, unfolding(crate::specs::Changes::done_by))]
 pub fn done_by(answer: Answer, change: Change) -> Done
     ensures { result ≡ done_by answer change }
 {

@@ -76,7 +76,7 @@ module _ (extents : Extents) (plant : Plant) (m : List ℕ) (i : ℕ) (s : Sourc
     ring r p = rw o at p
 
     pub deliver_full : (d : Done) → PutsIn extents (put_in (queue_at own 1) entry) m None m' → d ≡ becoming i s 1 → Follows extents plant (raise_at plant i) m d m'
-    unfolding becoming plant_after put
+    unfolding becoming done_by plant_after put
     deliver_full d p g =
         let q : PutsIn extents (put_in (queue_at (cpu_at plant s.target) 1) entry) m None m' = ring None p in
         let full : (put_in (queue_at (cpu_at plant s.target) 1) entry).room ≡ false = puts_none extents _ m m' q in
@@ -84,7 +84,7 @@ module _ (extents : Extents) (plant : Plant) (m : List ℕ) (i : ℕ) (s : Sourc
         (record { answer = refl; plant = source_after plant i _ source_below; memory = q.memory ∙ ap (λ (t : PutIn). apply (present extents) m t.writes) (put_full (queue_at (cpu_at plant s.target) 1) entry full) })
 
     pub deliver_done : (d : Done) (after : QueueRecord) → PutsIn extents (put_in (queue_at own 1) entry) m (Some after) m' → d ≡ done_by (One 2) (Change.Delivered i (with_state s 2) s.target after) → Follows extents plant (raise_at plant i) m d m'
-    unfolding plant_after put
+    unfolding done_by plant_after put
     deliver_done d after p g =
         let q : PutsIn extents (put_in (queue_at (cpu_at plant s.target) 1) entry) m (Some after) m' = ring (Some after) p in
         let had = puts_some extents (put_in (queue_at (cpu_at plant s.target) 1) entry) m m' after q in

@@ -113,7 +113,7 @@ module _ (extents : Extents) (a n : ℕ) (t : Verdict) (f : (rest : Ruling Outco
 
   pub scrub_done : (plant : Plant) (k : ℕ) (m m' : List ℕ) (d : Gave) → t ≡ Ok tt → k ≡ min n 32768 → m' ≡ apply (present extents) m (one a (replicate k 0)) → d ≡ done_by (One k) Change.Nothing
       → Follows extents plant (mem_scrub (valid (present extents)) plant a n) m d m'
-  unfolding mem_scrub plant_after changed_by
+  unfolding mem_scrub plant_after changed_by done_by
   scrub_done plant k m m' d e h w g = rw (judged_right (whole_pages (valid (present extents)) a n) t f e, ← h, g) (record { answer = refl; plant = refl; memory = w })
 
 -- a word
@@ -144,7 +144,7 @@ module _ (extents : Extents) (a : ℕ) (t : Verdict) (f : (rest : Ruling Outcome
 
     pub store_done : (v : ℕ) (vs m m' : List ℕ) (d : Gave) → t ≡ Ok tt → vs ≡ word_bytes v → m' ≡ apply (present extents) m (one a vs) → d ≡ done_by Done Change.Nothing
         → Follows extents plant (store_word (valid (present extents)) plant a v) m d m'
-    unfolding store_word plant_after changed_by
+    unfolding store_word plant_after changed_by done_by
     store_done v vs m m' d e h w g = rw (judged_right asked t f e, ← h, g) (record { answer = refl; plant = refl; memory = w })
 
     pub load_refused : (m : List ℕ) (r : Refusal) → t ≡ Err r → load_word (sight_of (present extents) m) plant a ≡ refused r
