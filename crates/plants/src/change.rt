@@ -2,7 +2,7 @@
 // for each function on its way; what it changes is small.
 ghost use Rattle.std.specs.Prelude.{◌≡◌, ◌≤◌};
 ghost use Rattle.rules.specs.Limits.{cpu_limit};
-ghost use Rattle.plants.specs.Changes.{done_by, cpu_after, changed_by, plant_after};
+ghost use Rattle.plants.specs.Changes.{done_by, cpu_after, plant_after};
 
 use crate::parts::{all_disabled, set_tails};
 use rules::{Answer, CPUS, Cpu, Plant, QUEUES, QueueRecord, SOURCES, Source, Tsbs, Versions};
@@ -71,12 +71,12 @@ pub fn cpu_after(cpu: Cpu, change: CpuChange) -> Cpu
 }
 
 // Changes the plant's record where it stands: a session holds one plant for many events. A place that is not there is not changed.
-#[tactic(auto, unfolding(crate::specs::Changes::changed_by, rules::specs::Versions::all_disabled, rules::specs::Kept::with_source, rules::specs::Kept::with_queue, crate::specs::Changes::cpu_after))]
-pub fn change_plant(plant: &mut Plant, change: Change)
+#[tactic(auto, unfolding(crate::specs::Changes::plant_after, crate::specs::Changes::changed_by, rules::specs::Versions::all_disabled, rules::specs::Kept::with_source, rules::specs::Kept::with_queue, crate::specs::Changes::cpu_after))]
+pub fn change_plant(plant: &mut Plant, done: Done)
     requires { plant.old.cpus ≤ cpu_limit }
-    ensures { plant.new ≡ changed_by plant.old change }
+    ensures { plant.new ≡ plant_after plant.old done }
 {
-    match change {
+    match done.change {
         Change::Nothing => {}
         Change::Versions(v) => plant.versions = v,
         Change::Disabled(v) => {
@@ -104,12 +104,11 @@ pub fn change_plant(plant: &mut Plant, change: Change)
 }
 
 // The plant's record after.
-#[tactic(auto, unfolding(crate::specs::Changes::plant_after))]
 pub fn plant_after(plant: Plant, done: Done) -> Plant
     requires { plant.cpus ≤ cpu_limit }
     ensures { result ≡ plant_after plant done }
 {
     let mut next = plant;
-    change_plant(&mut next, done.change);
+    change_plant(&mut next, done);
     next
 }
