@@ -19,6 +19,7 @@ use Rattle.plants.proofs.cpu_after.Reads as cpu-after-reads
 use Rattle.plants.proofs.cpu_at_tail.Reads as cpu-at-tail-reads
 use Rattle.plants.proofs.told.Reads as told-reads
 use Rattle.plants.proofs.done_by.Reads as done-by-reads
+use Rattle.plants.proofs.change_plant.Reads as change-plant-reads
 use Rattle.plants.proofs.plant_after.Reads as plant-after-reads
 use Rattle.plants.proofs.put_entry.Reads as put-entry-reads
 use Rattle.versions.proofs.set_version.Reads as set-version-reads
@@ -80,6 +81,9 @@ told_determined κs a r s ws vs p q = p ∙ sym q
 
 pub done_by_determined : (κs : _) (a : _) (r s : _) (ws vs : _) → done-by-reads.Post κs a r ws → done-by-reads.Post κs a s vs → r ≡ s
 done_by_determined κs a r s ws vs p q = p ∙ sym q
+
+pub change_plant_determined : (κs : _) (a : _) (r s : _) (ws vs : _) → change-plant-reads.Post κs a r ws → change-plant-reads.Post κs a s vs → ws.0.now ≡ vs.0.now
+change_plant_determined κs a r s ws vs p q = p ∙ sym q
 
 pub plant_after_determined : (κs : _) (a : _) (r s : _) (ws vs : _) → plant-after-reads.Post κs a r ws → plant-after-reads.Post κs a s vs → r ≡ s
 plant_after_determined κs a r s ws vs p q = p ∙ sym q

@@ -8,6 +8,7 @@ use Rattle.text.proofs.write_status.Reads as write-status-reads
 use Rattle.writer.proofs.write_image.Reads as write-image-reads
 use Rattle.session.proofs.load_line.Reads as load-line-reads
 use Rattle.desk.proofs.desk_after.Reads as desk-after-reads
+use Rattle.desk.proofs.plan_line.Reads as plan-line-reads
 use Rattle.plans.proofs.answer.Reads as answer-reads
 
 -- writer::write_image: the answer, and every byte of the buffer
@@ -17,6 +18,9 @@ write_image_determined κs a r s ws vs p q = (p.0 ∙ sym q.0, p.1 ∙ sym q.1)
 -- desk::desk_after and plans::answer: what the lines come to, and the bytes that are printed
 pub desk_after_determined : (κs : _) (a : _) (r s : _) (ws vs : _) → desk-after-reads.Post κs a r ws → desk-after-reads.Post κs a s vs → r ≡ s
 desk_after_determined κs a r s ws vs p q = p ∙ sym q
+
+pub plan_line_determined : (κs : _) (a : _) (r s : _) (ws vs : _) → plan-line-reads.Post κs a r ws → plan-line-reads.Post κs a s vs → r ≡ s
+plan_line_determined κs a r s ws vs p q = p ∙ sym q
 
 pub answer_determined : (κs : _) (a : _) (r s : _) (ws vs : _) → answer-reads.Post κs a r ws → answer-reads.Post κs a s vs → (r ≡ s) × (ws.1.0.now ≡ vs.1.0.now)
 answer_determined κs a r s ws vs p q = (p.0 ∙ sym q.0, p.1 ∙ sym q.1)

@@ -2,13 +2,9 @@
 use mathlib.Core.Path.{◌≡◌, sym, ◌∙◌}
 use Rattle.bits.proofs.number_at.Reads as number-at-reads
 use Rattle.bits.proofs.field_at.Reads as field-at-reads
-use Rattle.memory.proofs.least.Reads as least-reads
-use Rattle.memory.proofs.greatest.Reads as greatest-reads
 use Rattle.memory.proofs.range_valid.Reads as range-valid-reads
-use Rattle.memory.proofs.number2.Reads as number2-reads
-use Rattle.memory.proofs.number4.Reads as number4-reads
-use Rattle.memory.proofs.number8.Reads as number8-reads
-use Rattle.memory.proofs.bytes64.Reads as bytes64-reads
+use Rattle.memory.proofs.bytes.Reads as bytes-reads
+use Rattle.memory.proofs.number.Reads as number-reads
 use Rattle.memory.proofs.word_bytes.Reads as word-bytes-reads
 use Rattle.partition.proofs.extent_right.Reads as extent-right-reads
 use Rattle.partition.proofs.ascend.Reads as ascend-reads
@@ -19,7 +15,6 @@ use Rattle.partition.proofs.shares_before.Reads as shares-before-reads
 use Rattle.partition.proofs.pages_shared.Reads as pages-shared-reads
 use Rattle.partition.proofs.named_before.Reads as named-before-reads
 use Rattle.partition.proofs.source_twice.Reads as source-twice-reads
-use Rattle.records.proofs.is_right.Reads as is-right-reads
 use Rattle.records.proofs.is_page_index.Reads as is-page-index-reads
 use Rattle.records.proofs.judge_ring.Reads as judge-ring-reads
 use Rattle.records.proofs.judge_statistics.Reads as judge-statistics-reads
@@ -28,6 +23,8 @@ use Rattle.records.proofs.blank.extent.Reads as blank-extent-reads
 use Rattle.records.proofs.blank.extents.Reads as blank-extents-reads
 use Rattle.records.proofs.blank.source.Reads as blank-source-reads
 use Rattle.records.proofs.blank.sources.Reads as blank-sources-reads
+use Rattle.records.proofs.blank.tsb.Reads as blank-tsb-reads
+use Rattle.records.proofs.blank.cpu.Reads as blank-cpu-reads
 use Rattle.records.proofs.blank.tsbs.Reads as blank-tsbs-reads
 use Rattle.records.proofs.blank.cpus.Reads as blank-cpus-reads
 use Rattle.records.proofs.blank.versions.Reads as blank-versions-reads
@@ -47,28 +44,15 @@ number_at_determined κs a r s ws vs p q = p ∙ sym q
 pub field_at_determined : (κs : _) (a : _) (r s : _) (ws vs : _) → field-at-reads.Post κs a r ws → field-at-reads.Post κs a s vs → r ≡ s
 field_at_determined κs a r s ws vs p q = p ∙ sym q
 
--- memory: bounds
-pub least_determined : (κs : _) (a : _) (r s : _) (ws vs : _) → least-reads.Post κs a r ws → least-reads.Post κs a s vs → r ≡ s
-least_determined κs a r s ws vs p q = p ∙ sym q
-
-pub greatest_determined : (κs : _) (a : _) (r s : _) (ws vs : _) → greatest-reads.Post κs a r ws → greatest-reads.Post κs a s vs → r ≡ s
-greatest_determined κs a r s ws vs p q = p ∙ sym q
-
 -- memory: where a range lies, and what stands there
 pub range_valid_determined : (κs : _) (a : _) (r s : _) (ws vs : _) → range-valid-reads.Post κs a r ws → range-valid-reads.Post κs a s vs → r ≡ s
 range_valid_determined κs a r s ws vs p q = p ∙ sym q
 
-pub number2_determined : (κs : _) (a : _) (r s : _) (ws vs : _) → number2-reads.Post κs a r ws → number2-reads.Post κs a s vs → r ≡ s
-number2_determined κs a r s ws vs p q = p ∙ sym q
+pub bytes_determined : (κs : _) (a : _) (r s : _) (ws vs : _) → bytes-reads.Post κs a r ws → bytes-reads.Post κs a s vs → r ≡ s
+bytes_determined κs a r s ws vs p q = p ∙ sym q
 
-pub number4_determined : (κs : _) (a : _) (r s : _) (ws vs : _) → number4-reads.Post κs a r ws → number4-reads.Post κs a s vs → r ≡ s
-number4_determined κs a r s ws vs p q = p ∙ sym q
-
-pub number8_determined : (κs : _) (a : _) (r s : _) (ws vs : _) → number8-reads.Post κs a r ws → number8-reads.Post κs a s vs → r ≡ s
-number8_determined κs a r s ws vs p q = p ∙ sym q
-
-pub bytes64_determined : (κs : _) (a : _) (r s : _) (ws vs : _) → bytes64-reads.Post κs a r ws → bytes64-reads.Post κs a s vs → r ≡ s
-bytes64_determined κs a r s ws vs p q = p ∙ sym q
+pub number_determined : (κs : _) (a : _) (r s : _) (ws vs : _) → number-reads.Post κs a r ws → number-reads.Post κs a s vs → r ≡ s
+number_determined κs a r s ws vs p q = p.0 ∙ sym q.0
 
 pub word_bytes_determined : (κs : _) (a : _) (r s : _) (ws vs : _) → word-bytes-reads.Post κs a r ws → word-bytes-reads.Post κs a s vs → r ≡ s
 word_bytes_determined κs a r s ws vs p q = p ∙ sym q
@@ -102,9 +86,6 @@ pub source_twice_determined : (κs : _) (a : _) (r s : _) (ws vs : _) → source
 source_twice_determined κs a r s ws vs p q = p ∙ sym q
 
 -- records: what each call accepts
-pub is_right_determined : (κs : _) (a : _) (r s : _) (ws vs : _) → is-right-reads.Post κs a r ws → is-right-reads.Post κs a s vs → r ≡ s
-is_right_determined κs a r s ws vs p q = p ∙ sym q
-
 pub is_page_index_determined : (κs : _) (a : _) (r s : _) (ws vs : _) → is-page-index-reads.Post κs a r ws → is-page-index-reads.Post κs a s vs → r ≡ s
 is_page_index_determined κs a r s ws vs p q = p ∙ sym q
 
@@ -129,6 +110,12 @@ blank_source_determined κs a r s ws vs p q = p ∙ sym q
 
 pub blank_sources_determined : (κs : _) (a : _) (r s : _) (ws vs : _) → blank-sources-reads.Post κs a r ws → blank-sources-reads.Post κs a s vs → r ≡ s
 blank_sources_determined κs a r s ws vs p q = p ∙ sym q
+
+pub blank_tsb_determined : (κs : _) (a : _) (r s : _) (ws vs : _) → blank-tsb-reads.Post κs a r ws → blank-tsb-reads.Post κs a s vs → r ≡ s
+blank_tsb_determined κs a r s ws vs p q = p ∙ sym q
+
+pub blank_cpu_determined : (κs : _) (a : _) (r s : _) (ws vs : _) → blank-cpu-reads.Post κs a r ws → blank-cpu-reads.Post κs a s vs → r ≡ s
+blank_cpu_determined κs a r s ws vs p q = p ∙ sym q
 
 pub blank_tsbs_determined : (κs : _) (a : _) (r s : _) (ws vs : _) → blank-tsbs-reads.Post κs a r ws → blank-tsbs-reads.Post κs a s vs → r ≡ s
 blank_tsbs_determined κs a r s ws vs p q = p ∙ sym q

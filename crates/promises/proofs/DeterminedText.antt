@@ -3,6 +3,8 @@ use mathlib.Core.Path.{◌≡◌, sym, ◌∙◌}
 use Rattle.text.proofs.digit_of.Reads as digit-of-reads
 use Rattle.text.proofs.read_number.Reads as read-number-reads
 use Rattle.text.proofs.piece_end.Reads as piece-end-reads
+use Rattle.text.proofs.put_number.Reads as put-number-reads
+use Rattle.text.proofs.put_text.Reads as put-text-reads
 use Rattle.text.proofs.same_text.Reads as same-text-reads
 use Rattle.reasons.proofs.why_bad.Reads as why-bad-reads
 use Rattle.reasons.proofs.put_meaning.Reads as put-meaning-reads
@@ -21,6 +23,13 @@ piece_end_determined κs a r s ws vs p q = p ∙ sym q
 
 pub same_text_determined : (κs : _) (a : _) (r s : _) (ws vs : _) → same-text-reads.Post κs a r ws → same-text-reads.Post κs a s vs → r ≡ s
 same_text_determined κs a r s ws vs p q = p ∙ sym q
+
+-- text: a text and a number, written behind each other
+pub put_text_determined : (κs : _) (a : _) (r s : _) (ws vs : _) → put-text-reads.Post κs a r ws → put-text-reads.Post κs a s vs → (r ≡ s) × (ws.1.1.0.now ≡ vs.1.1.0.now)
+put_text_determined κs a r s ws vs p q = (p.behind ∙ sym q.behind, p.bytes ∙ sym q.bytes)
+
+pub put_number_determined : (κs : _) (a : _) (r s : _) (ws vs : _) → put-number-reads.Post κs a r ws → put-number-reads.Post κs a s vs → (r ≡ s) × (ws.1.1.1.0.now ≡ vs.1.1.1.0.now)
+put_number_determined κs a r s ws vs p q = (p.behind ∙ sym q.behind, p.bytes ∙ sym q.bytes)
 
 -- reasons: why a line is bad, and the words in the lent buffer
 pub why_bad_determined : (κs : _) (a : _) (r s : _) (ws vs : _) → why-bad-reads.Post κs a r ws → why-bad-reads.Post κs a s vs → r ≡ s
