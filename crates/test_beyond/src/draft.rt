@@ -1,8 +1,7 @@
 // A field of the tables, set by hand. `store RECORD FIELD VALUE` names it: the records are those of guest 0 and some that are
 // absent, the fields are numbered in the order of their type. A value is cut to its field's width.
 use rules::{
-    CPUS, Cpu, EXTENTS, Extent, Extents, Guest, Plant, Queue, QueueRecord, Ring, SOURCES, Source,
-    StoreAt, TSBS, Tables, Tsb, Tsbs, Versions,
+    Extent, Guest, Queue, QueueRecord, Ring, Source, StoreAt, Tables, Tsb, Tsbs, Versions,
 };
 
 fn byte(v: u64) -> u8 {
@@ -17,134 +16,47 @@ fn word(v: u64) -> u32 {
     (v % 0x1_0000_0000) as u32
 }
 
-fn plant_of(t: Tables) -> Plant {
-    let guest = t.guest[0];
-    guest.plant
-}
-
-fn with_guest(t: Tables, guest: Guest) -> Tables {
-    let mut next = t;
-    next.guest[0] = guest;
-    next
-}
-
-fn with_extents(t: Tables, extents: Extents) -> Tables {
-    let mut guest = t.guest[0];
-    guest.extents = extents;
-    with_guest(t, guest)
-}
-
-fn with_plant(t: Tables, plant: Plant) -> Tables {
-    let mut guest = t.guest[0];
-    guest.plant = plant;
-    with_guest(t, guest)
-}
-
-fn set_guests(t: Tables, v: u64) -> Tables {
-    let mut next = t;
-    next.guests = byte(v);
-    next
-}
-
-fn set_cpus(t: Tables, v: u64) -> Tables {
-    let mut plant = plant_of(t);
-    plant.cpus = byte(v);
-    with_plant(t, plant)
-}
-
-fn set_extents(t: Tables, v: u64) -> Tables {
-    let guest = t.guest[0];
-    let mut extents = guest.extents;
-    extents.extents = byte(v);
-    with_extents(t, extents)
-}
-
-fn set_sources(t: Tables, v: u64) -> Tables {
-    let mut plant = plant_of(t);
-    plant.sources = byte(v);
-    with_plant(t, plant)
-}
-
-fn set_count(t: Tables, field: u64, v: u64) -> Tables {
+fn set_count(t: &mut Tables, field: u64, v: u64) {
     match field {
-        0 => set_guests(t, v),
-        1 => set_cpus(t, v),
-        2 => set_extents(t, v),
-        _ => set_sources(t, v),
+        0 => t.guests = byte(v),
+        1 => t.guest[0].plant.cpus = byte(v),
+        2 => t.guest[0].extents.extents = byte(v),
+        _ => t.guest[0].plant.sources = byte(v),
     }
 }
 
-fn changed_versions(old: Versions, field: u64, v: u64) -> Versions {
-    let mut new = old;
+fn set_version(versions: &mut Versions, field: u64, v: u64) {
     match field {
-        0 => new.sun4v = byte(v),
-        1 => new.core = byte(v),
-        2 => new.interrupt = byte(v),
-        _ => new.statistics = byte(v),
+        0 => versions.sun4v = byte(v),
+        1 => versions.core = byte(v),
+        2 => versions.interrupt = byte(v),
+        _ => versions.statistics = byte(v),
     }
-    new
 }
 
-fn set_version(t: Tables, field: u64, v: u64) -> Tables {
-    let mut plant = plant_of(t);
-    let versions = changed_versions(plant.versions, field, v);
-    plant.versions = versions;
-    with_plant(t, plant)
-}
-
-fn changed_extent(old: Extent, field: u64, v: u64) -> Extent {
-    let mut new = old;
+fn set_extent(extent: &mut Extent, field: u64, v: u64) {
     match field {
-        0 => new.real = word(v),
-        1 => new.count = half(v),
-        _ => new.host = half(v),
+        0 => extent.real = word(v),
+        1 => extent.count = half(v),
+        _ => extent.host = half(v),
     }
-    new
 }
 
-fn set_extent(t: Tables, i: usize, field: u64, v: u64) -> Tables {
-    if EXTENTS <= i {
-        return t;
-    }
-    let guest = t.guest[0];
-    let mut extents = guest.extents;
-    extents.extent[i] = changed_extent(extents.extent[i], field, v);
-    with_extents(t, extents)
-}
-
-// Records 0x10 and up are the places behind the first three.
-fn set_later_extent(t: Tables, record: u64, field: u64, v: u64) -> Tables {
-    if record < 16 {
-        return t;
-    }
-    set_extent(t, 3 + (record - 16) as usize, field, v)
-}
-
-fn changed_source(old: Source, field: u64, v: u64) -> Source {
-    let mut new = old;
+fn set_source(source: &mut Source, field: u64, v: u64) {
     match field {
-        0 => new.devhandle = word(v),
-        1 => new.devino = byte(v),
-        2 => new.cookies = v != 0,
-        3 => new.enabled = byte(v),
-        4 => new.state = byte(v),
-        5 => new.target = byte(v),
-        _ => new.cookie = v,
+        0 => source.devhandle = word(v),
+        1 => source.devino = byte(v),
+        2 => source.cookies = v != 0,
+        3 => source.enabled = byte(v),
+        4 => source.state = byte(v),
+        5 => source.target = byte(v),
+        _ => source.cookie = v,
     }
-    new
 }
 
-fn set_source(t: Tables, i: usize, field: u64, v: u64) -> Tables {
-    if SOURCES <= i {
-        return t;
-    }
-    let mut plant = plant_of(t);
-    plant.source[i] = changed_source(plant.source[i], field, v);
-    with_plant(t, plant)
-}
-
-fn ring_of(held: QueueRecord) -> Ring {
-    match held {
+// Of a queue that has no ring, the ring with every other field 0.
+fn set_ring(queue: &mut Queue, field: u64, v: u64) {
+    let mut ring = match queue.held {
         QueueRecord::Set(ring) => ring,
         QueueRecord::Unset => Ring {
             base: 0,
@@ -152,134 +64,72 @@ fn ring_of(held: QueueRecord) -> Ring {
             head: 0,
             tail: 0,
         },
-    }
-}
-
-fn changed_ring(old: Ring, field: u64, v: u64) -> Ring {
-    let mut new = old;
-    match field {
-        0 => new.base = v,
-        1 => new.size = half(v),
-        2 => new.head = half(v),
-        _ => new.tail = half(v),
-    }
-    new
-}
-
-// The ring of queue 0x3c.
-fn cpu_with_ring(old: Cpu, field: u64, v: u64) -> Cpu {
-    let mut new = old;
-    let queue = old.queue[0];
-    let held = queue.held;
-    let ring = changed_ring(ring_of(held), field, v);
-    new.queue[0] = Queue {
-        held: QueueRecord::Set(ring),
     };
-    new
-}
-
-fn changed_tsb(old: Tsb, field: u64, v: u64) -> Tsb {
-    let mut new = old;
     match field {
-        0 => new.index = half(v),
-        1 => new.associativity = half(v),
-        2 => new.entries = word(v),
-        3 => new.context = word(v),
-        4 => new.mask = word(v),
-        _ => new.base = v,
+        0 => ring.base = v,
+        1 => ring.size = half(v),
+        2 => ring.head = half(v),
+        _ => ring.tail = half(v),
     }
-    new
+    queue.held = QueueRecord::Set(ring);
 }
 
-// Field 6 is the list's count.
-fn changed_list(old: Tsbs, i: usize, field: u64, v: u64) -> Tsbs {
-    if TSBS <= i {
-        return old;
+fn set_tsb(tsb: &mut Tsb, field: u64, v: u64) {
+    match field {
+        0 => tsb.index = half(v),
+        1 => tsb.associativity = half(v),
+        2 => tsb.entries = word(v),
+        3 => tsb.context = word(v),
+        4 => tsb.mask = word(v),
+        _ => tsb.base = v,
     }
-    let mut new = old;
+}
+
+// Field 6 is the list's count, whichever of its TSBs is named.
+fn set_list(list: &mut Tsbs, i: usize, field: u64, v: u64) {
     if field == 6 {
-        new.tsbs = byte(v);
-    } else {
-        new.tsb[i] = changed_tsb(old.tsb[i], field, v);
+        list.tsbs = byte(v);
+    } else if let Some(tsb) = list.tsb.get_mut(i) {
+        set_tsb(tsb, field, v);
     }
-    new
-}
-
-fn cpu_with_ctx0(old: Cpu, i: usize, field: u64, v: u64) -> Cpu {
-    let mut new = old;
-    let list = old.ctx0;
-    new.ctx0 = changed_list(list, i, field, v);
-    new
-}
-
-fn cpu_with_ctxnon0(old: Cpu, field: u64, v: u64) -> Cpu {
-    let mut new = old;
-    let list = old.ctxnon0;
-    new.ctxnon0 = changed_list(list, 0, field, v);
-    new
-}
-
-fn cpu_with_statistics(old: Cpu, v: u64) -> Cpu {
-    let mut new = old;
-    new.statistics = v;
-    new
-}
-
-// Record 8 and its like are of cpu 0, which is there; 9 and its like of cpu 2, which is absent.
-fn changed_cpu(old: Cpu, record: u64, field: u64, v: u64) -> Cpu {
-    match record {
-        8 | 9 => cpu_with_ring(old, field, v),
-        10 => cpu_with_ctx0(old, 0, field, v),
-        11 => cpu_with_ctx0(old, 1, field, v),
-        12 => cpu_with_ctxnon0(old, field, v),
-        _ => cpu_with_statistics(old, v),
-    }
-}
-
-fn set_cpu(t: Tables, i: usize, record: u64, field: u64, v: u64) -> Tables {
-    if CPUS <= i {
-        return t;
-    }
-    let mut plant = plant_of(t);
-    plant.cpu[i] = changed_cpu(plant.cpu[i], record, field, v);
-    with_plant(t, plant)
 }
 
 // Guest 2, which is absent: its version of group 1, its count of cpus, or its first extent's host page.
-fn changed_absent(old: Guest, field: u64, v: u64) -> Guest {
-    let mut plant = old.plant;
-    let versions = changed_versions(plant.versions, 1, v);
-    let mut extents = old.extents;
+fn set_absent(guest: &mut Guest, field: u64, v: u64) {
     match field {
-        0 => plant.versions = versions,
-        1 => plant.cpus = byte(v),
-        _ => extents.extent[0] = changed_extent(extents.extent[0], 2, v),
+        0 => guest.plant.versions.core = byte(v),
+        1 => guest.plant.cpus = byte(v),
+        _ => guest.extents.extent[0].host = half(v),
     }
-    Guest { extents, plant }
 }
 
-fn set_absent(t: Tables, field: u64, v: u64) -> Tables {
-    let mut next = t;
-    next.guest[2] = changed_absent(t.guest[2], field, v);
-    next
-}
-
-pub(crate) fn drafted(t: Tables, to: StoreAt) -> Tables {
-    let record = to.guest;
+// Records 8 and 9 are the rings of queue 0x3c, and 13 and 14 the statistics, of cpu 0, which is there, and of cpu 2, which is absent.
+// Records 16 and up are the extents behind the first three.
+pub(crate) fn draft(t: &mut Tables, to: StoreAt) {
     let field = to.address;
     let v = to.value;
-    match record {
+    match to.guest {
         0 => set_count(t, field, v),
-        1 => set_version(t, field, v),
-        2 => set_extent(t, 0, field, v),
-        3 => set_extent(t, 1, field, v),
-        4 => set_extent(t, 2, field, v),
-        5 => set_source(t, 0, field, v),
-        6 => set_source(t, 1, field, v),
-        7 => set_source(t, 2, field, v),
-        8 | 10..=13 => set_cpu(t, 0, record, field, v),
-        9 | 14 => set_cpu(t, 2, record, field, v),
-        15 => set_absent(t, field, v),
-        _ => set_later_extent(t, record, field, v),
+        1 => set_version(&mut t.guest[0].plant.versions, field, v),
+        2 => set_extent(&mut t.guest[0].extents.extent[0], field, v),
+        3 => set_extent(&mut t.guest[0].extents.extent[1], field, v),
+        4 => set_extent(&mut t.guest[0].extents.extent[2], field, v),
+        5 => set_source(&mut t.guest[0].plant.source[0], field, v),
+        6 => set_source(&mut t.guest[0].plant.source[1], field, v),
+        7 => set_source(&mut t.guest[0].plant.source[2], field, v),
+        8 => set_ring(&mut t.guest[0].plant.cpu[0].queue[0], field, v),
+        9 => set_ring(&mut t.guest[0].plant.cpu[2].queue[0], field, v),
+        10 => set_list(&mut t.guest[0].plant.cpu[0].ctx0, 0, field, v),
+        11 => set_list(&mut t.guest[0].plant.cpu[0].ctx0, 1, field, v),
+        12 => set_list(&mut t.guest[0].plant.cpu[0].ctxnon0, 0, field, v),
+        13 => t.guest[0].plant.cpu[0].statistics = v,
+        14 => t.guest[0].plant.cpu[2].statistics = v,
+        15 => set_absent(&mut t.guest[2], field, v),
+        record @ 16.. => {
+            let i = 3 + (record - 16) as usize;
+            if let Some(extent) = t.guest[0].extents.extent.get_mut(i) {
+                set_extent(extent, field, v);
+            }
+        }
     }
 }

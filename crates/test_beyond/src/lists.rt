@@ -1,23 +1,22 @@
 // The TSB lists as they are kept.
 use crate::say::{say, say_number};
-use rules::{CPUS, GUESTS, Tables, Tsb, Tsbs};
+use rules::{Tables, Tsb, Tsbs};
 use std::io;
 
-fn say_tsb<P: Print>(rt: &P, t: Tsb, end: &str) -> io::Result<()> {
+fn say_tsb<P: Print>(rt: &P, t: Tsb) -> io::Result<()> {
     print!(rt;
-        "{:x} {:x} {:x} {:x} {:x} {:x}{end}",
+        ", {:x} {:x} {:x} {:x} {:x} {:x}",
         t.index, t.associativity, t.entries, t.context, t.mask, t.base
     )
 }
 
 // The count and all four places, each with its fields in the order of the descriptor.
 fn show_list<P: Print>(rt: &P, list: Tsbs) -> io::Result<()> {
-    say_number(rt, list.tsbs as u64, ", ")?;
-    let places = list.tsb;
-    say_tsb(rt, places[0], ", ")?;
-    say_tsb(rt, places[1], ", ")?;
-    say_tsb(rt, places[2], ", ")?;
-    say_tsb(rt, places[3], "\n")
+    say_number(rt, u64::from(list.tsbs), "")?;
+    for tsb in list.tsb {
+        say_tsb(rt, tsb)?;
+    }
+    say(rt, "\n")
 }
 
 // Of guest g's cpu c the list of 0x20, or that of 0x21.
@@ -28,16 +27,11 @@ pub(crate) fn show_list_of<P: Print>(
     c: usize,
     nonzero: bool,
 ) -> io::Result<()> {
-    if GUESTS <= g {
+    let Some(guest) = tables.guest.get(g) else {
         return say(rt, "bad\n");
-    }
-    if CPUS <= c {
+    };
+    let Some(cpu) = guest.plant.cpu.get(c) else {
         return say(rt, "bad\n");
-    }
-    let guest = tables.guest[g];
-    let plant = guest.plant;
-    let cpu = plant.cpu[c];
-    let ctx0 = cpu.ctx0;
-    let ctxnon0 = cpu.ctxnon0;
-    show_list(rt, if nonzero { ctxnon0 } else { ctx0 })
+    };
+    show_list(rt, if nonzero { cpu.ctxnon0 } else { cpu.ctx0 })
 }

@@ -5,45 +5,21 @@
 mod draft;
 mod lent;
 mod lists;
-mod same;
 mod say;
 mod step;
 
-ghost use Rattle.std.specs.Prelude.{◌≤◌, length};
-
-use lent::filled;
+use lent::{FILL, MEMORY};
 use std::io;
 use std::io::Read;
 
-// The place of the next line feed, or the end.
-fn line_end(s: &[u8], at: usize) -> usize
-    requires { at ≤ length s.now }
-    ensures { (at ≤ result) × (result ≤ length s.now) }
-{
-    let mut i = at;
-    while i < s.len() {
-        if s[i] == b'\n' {
-            return i;
-        }
-        i += 1;
-    }
-    i
-}
-
-fn run_all<P: Print>(rt: &P, mem: &mut [u8], input: &[u8]) -> io::Result<()> {
-    let mut bench = step::begin();
-    let mut at = 0;
-    while at < input.len() {
-        let end = line_end(input, at);
-        bench = step::run_line(rt, bench, mem, &input[at..end])?;
-        at = end + 1;
-    }
-    Ok(())
-}
-
 fn main(rt: HostRuntime) -> io::Result<()> {
-    let mut mem = filled();
+    let mut mem = [FILL; MEMORY];
     let mut input = Vec::new(rt.alloc());
     rt.stdin().read_to_end(&mut input)?;
-    run_all(&rt, &mut mem, &input)
+    let mut bench = step::begin();
+    for line in input.split_inclusive(|b| *b == b'\n') {
+        let line = line.strip_suffix(b"\n").unwrap_or(line);
+        step::run_line(&rt, &mut bench, &mut mem, line)?;
+    }
+    Ok(())
 }

@@ -19,13 +19,11 @@ pub(crate) fn say_numbers<P: Print>(rt: &P, ns: [u64; 5]) -> io::Result<()> {
 
 // What is other than before.
 pub(crate) fn say_changed<P: Print>(rt: &P, tables: bool, memory: bool) -> io::Result<()> {
-    if tables & memory {
-        say(rt, "both\n")
-    } else if tables {
-        say(rt, "tables\n")
-    } else if memory {
-        say(rt, "memory\n")
-    } else {
-        say(rt, "nothing\n")
-    }
+    let what = match (tables, memory) {
+        (true, true) => "both\n",
+        (true, false) => "tables\n",
+        (false, true) => "memory\n",
+        (false, false) => "nothing\n",
+    };
+    say(rt, what)
 }

@@ -1,10 +1,9 @@
 // A line, and what it prints.
-use crate::draft::drafted;
-use crate::lent::{MEMORY, filled, keep, put_back, same_as, same_bytes, zeros_of};
+use crate::draft::draft;
+use crate::lent::{FILL, MEMORY, copy, same_bytes, zeros_of};
 use crate::lists::show_list_of;
-use crate::same::same_tables;
 use crate::say::{say, say_changed, say_number, say_numbers};
-use rules::{Device, Event, Loaded, StoreAt, Tables};
+use rules::{Device, Event, StoreAt, Tables};
 use std::io;
 use text::Line;
 
@@ -16,17 +15,9 @@ pub struct Bench {
     pub lent: usize,
 }
 
-// What a line behind `also ` or `hand ` has to be.
-#[derive(Clone, Copy)]
-enum Store {
-    None,
-    At(StoreAt),
-}
-
 // No guest, and all of memory.
 pub(crate) fn begin() -> Bench {
-    let loaded = image::load(b"");
-    let tables = loaded.tables;
+    let tables = image::load(b"").tables;
     Bench {
         tables,
         draft: tables,
@@ -34,32 +25,15 @@ pub(crate) fn begin() -> Bench {
     }
 }
 
-fn with_tables(bench: Bench, tables: Tables) -> Bench {
-    Bench {
-        tables,
-        draft: tables,
-        lent: bench.lent,
-    }
+// The tables as they are from now on. Of a draft nothing is left.
+fn keep(bench: &mut Bench, tables: Tables) {
+    bench.tables = tables;
+    bench.draft = tables;
 }
 
-fn with_draft(bench: Bench, draft: Tables) -> Bench {
-    let tables = bench.tables;
-    Bench {
-        tables,
-        draft,
-        lent: bench.lent,
-    }
-}
-
-fn with_lent<P: Print>(rt: &P, bench: Bench, lent: usize) -> io::Result<Bench> {
-    let tables = bench.tables;
-    let draft = bench.draft;
-    say_number(rt, lent as u64, "\n")?;
-    Ok(Bench {
-        tables,
-        draft,
-        lent,
-    })
+fn lend<P: Print>(rt: &P, bench: &mut Bench, lent: usize) -> io::Result<()> {
+    bench.lent = lent;
+    say_number(rt, lent as u64, "\n")
 }
 
 // Prints the answer, and whether tables or memory are other than before. A trial puts memory back.
@@ -70,17 +44,15 @@ fn answer<P: Print>(
     event: Event,
     trial: bool,
 ) -> io::Result<Tables> {
-    let mut before = filled();
-    keep(mem, &mut before);
+    let mut before = [FILL; MEMORY];
+    copy(mem, &mut before);
     let settled = host::event(tables, mem, event);
-    let answer = settled.answer;
-    let after = settled.tables;
-    say_numbers(rt, text::numbers_of(answer))?;
-    say_changed(rt, !same_tables(tables, after), !same_as(mem, &before))?;
+    say_numbers(rt, text::numbers_of(settled.answer))?;
+    say_changed(rt, tables != settled.tables, !same_bytes(mem, &before))?;
     if trial {
-        put_back(&before, mem);
+        copy(&before, mem);
     }
-    Ok(after)
+    Ok(settled.tables)
 }
 
 // The same of the memory that is lent.
@@ -92,47 +64,34 @@ fn answer_lent<P: Print>(
     event: Event,
     trial: bool,
 ) -> io::Result<Tables> {
-    if mem.len() < lent {
-        return Ok(tables);
+    match mem.get_mut(..lent) {
+        Some(part) => answer(rt, tables, part, event, trial),
+        None => Ok(tables),
     }
-    answer(rt, tables, &mut mem[0..lent], event, trial)
 }
 
 // An event on the draft, which is then dropped for the tables as they are.
-fn run_trial<P: Print>(rt: &P, bench: Bench, mem: &mut [u8], event: Event) -> io::Result<Bench> {
-    let draft = bench.draft;
-    let tables = bench.tables;
-    answer_lent(rt, draft, mem, bench.lent, event, true)?;
-    Ok(with_draft(bench, tables))
+fn run_trial<P: Print>(rt: &P, bench: &mut Bench, mem: &mut [u8], event: Event) -> io::Result<()> {
+    answer_lent(rt, bench.draft, mem, bench.lent, event, true)?;
+    bench.draft = bench.tables;
+    Ok(())
 }
 
-fn run_event<P: Print>(rt: &P, bench: Bench, mem: &mut [u8], event: Event) -> io::Result<Bench> {
-    let tables = bench.tables;
-    let after = answer_lent(rt, tables, mem, bench.lent, event, false)?;
-    Ok(with_tables(bench, after))
+fn run_event<P: Print>(rt: &P, bench: &mut Bench, mem: &mut [u8], event: Event) -> io::Result<()> {
+    let after = answer_lent(rt, bench.tables, mem, bench.lent, event, false)?;
+    keep(bench, after);
+    Ok(())
 }
 
-// The image in the first n bytes. There are never fewer: the test is for the slice's sake.
-fn load_part(bytes: &[u8], n: usize) -> Loaded {
-    if bytes.len() < n {
-        return image::load(bytes);
-    }
-    image::load(&bytes[0..n])
-}
-
-fn load_front(bytes: &[u8; 1024], n: usize) -> Loaded {
-    load_part(bytes, n)
-}
-
-fn run_image<P: Print>(rt: &P, bench: Bench, line: &[u8]) -> io::Result<Bench> {
+fn run_image<P: Print>(rt: &P, bench: &mut Bench, line: &[u8]) -> io::Result<()> {
     let mut bytes = [0u8; 1024];
     let n = text::image_bytes(line, &mut bytes);
-    let loaded = load_front(&bytes, n);
-    let answer = loaded.answer;
-    let tables = loaded.tables;
-    let numbers = text::loading_numbers(answer);
+    // There are never more than 1024: the test is for the slice's sake.
+    let loaded = image::load(bytes.get(..n).unwrap_or(&bytes));
+    let numbers = text::loading_numbers(loaded.answer);
     println!(rt; "{:x} {:x} {:x}", numbers[0], numbers[1], numbers[2])?;
-    Ok(with_tables(bench, tables))
+    keep(bench, loaded.tables);
+    Ok(())
 }
 
 fn show_zeros<P: Print>(rt: &P, mem: &[u8]) -> io::Result<()> {
@@ -140,44 +99,26 @@ fn show_zeros<P: Print>(rt: &P, mem: &[u8]) -> io::Result<()> {
     println!(rt; "{:x} {:x} {:x} {:x}", z.first, z.end, z.count, z.others)
 }
 
-fn is(line: &[u8], word: &[u8]) -> bool {
-    line.len() == word.len() && same_bytes(line, word)
-}
-
-fn begins(line: &[u8], word: &[u8]) -> bool {
-    word.len() <= line.len() && same_bytes(line, word)
-}
-
-fn bad<P: Print>(rt: &P, bench: Bench) -> io::Result<Bench> {
-    say(rt, "bad\n")?;
-    Ok(bench)
+fn bad<P: Print>(rt: &P) -> io::Result<()> {
+    say(rt, "bad\n")
 }
 
 // A word that stands alone.
-fn run_word<P: Print>(rt: &P, bench: Bench, mem: &mut [u8], line: &[u8]) -> io::Result<Bench> {
-    let tables = bench.tables;
-    if is(line, b"zeros") {
-        show_zeros(rt, mem)?;
-    } else if is(line, b"ctx0") {
-        show_list_of(rt, tables, 0, 0, false)?;
-    } else if is(line, b"ctxnon0") {
-        show_list_of(rt, tables, 0, 0, true)?;
-    } else if is(line, b"other") {
-        show_list_of(rt, tables, 0, 1, false)?;
-    } else if is(line, b"short") {
-        return with_lent(rt, bench, MEMORY - 1);
-    } else if is(line, b"exact") {
-        return with_lent(rt, bench, MEMORY);
-    } else if is(line, b"none") {
-        return with_lent(rt, bench, 0);
-    } else {
-        return bad(rt, bench);
+fn run_word<P: Print>(rt: &P, bench: &mut Bench, mem: &[u8], line: &[u8]) -> io::Result<()> {
+    match line {
+        b"zeros" => show_zeros(rt, mem),
+        b"ctx0" => show_list_of(rt, bench.tables, 0, 0, false),
+        b"ctxnon0" => show_list_of(rt, bench.tables, 0, 0, true),
+        b"other" => show_list_of(rt, bench.tables, 0, 1, false),
+        b"short" => lend(rt, bench, MEMORY - 1),
+        b"exact" => lend(rt, bench, MEMORY),
+        b"none" => lend(rt, bench, 0),
+        _ => bad(rt),
     }
-    Ok(bench)
 }
 
 // A session's line.
-fn run_plain<P: Print>(rt: &P, bench: Bench, mem: &mut [u8], line: &[u8]) -> io::Result<Bench> {
+fn run_plain<P: Print>(rt: &P, bench: &mut Bench, mem: &mut [u8], line: &[u8]) -> io::Result<()> {
     match text::parse_line(line) {
         Line::Event(event) => run_event(rt, bench, mem, event),
         Line::Image => run_image(rt, bench, line),
@@ -186,96 +127,77 @@ fn run_plain<P: Print>(rt: &P, bench: Bench, mem: &mut [u8], line: &[u8]) -> io:
 }
 
 // The store that a line is, if it is one.
-fn store_of(line: &[u8]) -> Store {
-    let Line::Event(event) = text::parse_line(line) else {
-        return Store::None;
-    };
-    let Event::Store(to) = event else {
-        return Store::None;
-    };
-    Store::At(to)
+fn store_of(line: &[u8]) -> Option<StoreAt> {
+    match text::parse_line(line) {
+        Line::Event(Event::Store(to)) => Some(to),
+        _ => None,
+    }
 }
 
 // Behind `also `: a field of the draft is set.
-fn run_also<P: Print>(rt: &P, bench: Bench, line: &[u8]) -> io::Result<Bench> {
-    let store = store_of(line);
-    let Store::At(to) = store else {
-        return bad(rt, bench);
+fn run_also<P: Print>(rt: &P, bench: &mut Bench, line: &[u8]) -> io::Result<()> {
+    let Some(to) = store_of(line) else {
+        return bad(rt);
     };
-    let draft = bench.draft;
-    say(rt, "set\n")?;
-    Ok(with_draft(bench, drafted(draft, to)))
+    draft(&mut bench.draft, to);
+    say(rt, "set\n")
 }
 
 // Behind `hand `: a field of the draft is set, and device 100 raises its interrupt on it.
-fn run_hand<P: Print>(rt: &P, bench: Bench, mem: &mut [u8], line: &[u8]) -> io::Result<Bench> {
-    let store = store_of(line);
-    let Store::At(to) = store else {
-        return bad(rt, bench);
+fn run_hand<P: Print>(rt: &P, bench: &mut Bench, mem: &mut [u8], line: &[u8]) -> io::Result<()> {
+    let Some(to) = store_of(line) else {
+        return bad(rt);
     };
-    let draft = bench.draft;
-    let set = with_draft(bench, drafted(draft, to));
+    draft(&mut bench.draft, to);
     let device = Device {
         devhandle: 0x100,
         devino: 5,
     };
-    run_trial(rt, set, mem, Event::Raise(device))
+    run_trial(rt, bench, mem, Event::Raise(device))
 }
 
 // Behind `try `: an event on the draft.
-fn run_try<P: Print>(rt: &P, bench: Bench, mem: &mut [u8], line: &[u8]) -> io::Result<Bench> {
+fn run_try<P: Print>(rt: &P, bench: &mut Bench, mem: &mut [u8], line: &[u8]) -> io::Result<()> {
     match text::parse_line(line) {
         Line::Event(event) => run_trial(rt, bench, mem, event),
-        Line::Image => bad(rt, bench),
-        Line::Bad => bad(rt, bench),
+        Line::Image | Line::Bad => bad(rt),
     }
 }
 
 // Behind `ctx0 ` and `ctxnon0 `: whose list is shown. `load G C` names guest and cpu.
-fn run_list<P: Print>(rt: &P, bench: Bench, line: &[u8], nonzero: bool) -> io::Result<Bench> {
-    let Line::Event(event) = text::parse_line(line) else {
-        return bad(rt, bench);
+fn run_list<P: Print>(rt: &P, bench: &Bench, line: &[u8], nonzero: bool) -> io::Result<()> {
+    let Line::Event(Event::Load(of)) = text::parse_line(line) else {
+        return bad(rt);
     };
-    let Event::Load(of) = event else {
-        return bad(rt, bench);
-    };
-    let tables = bench.tables;
-    show_list_of(rt, tables, of.guest as usize, of.address as usize, nonzero)?;
-    Ok(bench)
-}
-
-// A line that asks for a cpu's list, or any other.
-fn run_other<P: Print>(rt: &P, bench: Bench, mem: &mut [u8], line: &[u8]) -> io::Result<Bench> {
-    if line.len() < 8 {
-        return run_plain(rt, bench, mem, line);
-    }
-    if begins(line, b"ctx0 ") {
-        return run_list(rt, bench, &line[5..], false);
-    }
-    if begins(line, b"ctxnon0 ") {
-        return run_list(rt, bench, &line[8..], true);
-    }
-    run_plain(rt, bench, mem, line)
+    show_list_of(
+        rt,
+        bench.tables,
+        of.guest as usize,
+        of.address as usize,
+        nonzero,
+    )
 }
 
 pub(crate) fn run_line<P: Print>(
     rt: &P,
-    bench: Bench,
+    bench: &mut Bench,
     mem: &mut [u8],
     line: &[u8],
-) -> io::Result<Bench> {
-    // Too short for any of these words and what has to stand behind it.
-    if line.len() < 5 {
-        return run_plain(rt, bench, mem, line);
+) -> io::Result<()> {
+    if let Some(rest) = line.strip_prefix(b"also ") {
+        return run_also(rt, bench, rest);
     }
-    if begins(line, b"also ") {
-        return run_also(rt, bench, &line[5..]);
+    if let Some(rest) = line.strip_prefix(b"hand ") {
+        return run_hand(rt, bench, mem, rest);
     }
-    if begins(line, b"hand ") {
-        return run_hand(rt, bench, mem, &line[5..]);
+    if let Some(rest) = line.strip_prefix(b"try ") {
+        return run_try(rt, bench, mem, rest);
     }
-    if begins(line, b"try ") {
-        return run_try(rt, bench, mem, &line[4..]);
+    if let Some(rest) = line.strip_prefix(b"ctx0 ") {
+        return run_list(rt, bench, rest, false);
     }
-    run_other(rt, bench, mem, line)
+    if let Some(rest) = line.strip_prefix(b"ctxnon0 ") {
+        return run_list(rt, bench, rest, true);
+    }
+    run_plain(rt, bench, mem, line)
 }

@@ -1,9 +1,6 @@
--- The place is never past the end.
-use Rattle.std.proofs.Common.{length, ◌-◌, ◌≤◌}
+-- No more bytes are counted than were looked at.
+use Rattle.std.proofs.Common.{◌≤◌}
 use Rattle.test_beyond.proofs.lent.zeros_of.Given as goal
 
-abbrev pub invariant-loop-i : goal.invariant-loop-i
-invariant-loop-i l = l.i ≤ length l.mem
-
-abbrev pub decreases-loop-i : goal.decreases-loop-i
-decreases-loop-i l = length l.mem - l.i
+abbrev pub invariant-loop-at : goal.invariant-loop-at
+invariant-loop-at l = (l.z.count ≤ l.at) × (l.z.others ≤ l.at)
