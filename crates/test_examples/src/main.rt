@@ -5,12 +5,12 @@
 use rules::{Call, Event, LoadAt, StoreAt, Tables};
 use std::io;
 
-fn step<P: Print>(rt: &P, tables: Tables, mem: &mut [u8], event: Event) -> io::Result<Tables> {
-    let settled = host::event(tables, mem, event);
-    let answer = settled.answer;
-    let n = text::numbers_of(answer);
-    println!(rt; "{} {} {} {} {}", n[0], n[1], n[2], n[3], n[4])?;
-    Ok(settled.tables)
+// Prints the answer, and keeps the tables.
+fn step<P: Print>(rt: &P, tables: &mut Tables, mem: &mut [u8], event: Event) -> io::Result<()> {
+    let settled = host::event(*tables, mem, event);
+    *tables = settled.tables;
+    let [status, a, b, c, d] = text::numbers_of(settled.answer);
+    println!(rt; "{status} {a} {b} {c} {d}")
 }
 
 // A call of guest 0.
@@ -42,27 +42,27 @@ fn load(address: u64) -> Event {
 
 fn main(rt: HostRuntime) -> io::Result<()> {
     let mut mem = [0u8; 32768];
-    let loaded = image::load(
+    let worked = image::load(
         b"\x12\x22\x10\x00\x00\x00\x00\x01\x00\x00\x00\x00\x10\x00\xb1\x21\x00\x00\x00\x00\x00\x10\x00\x10\x00\x02\x00\x0b",
     );
-    let worked = loaded.tables;
-    // Group 1, and a ring of two entries for the mondos of cpu 1.
-    let negotiated = step(&rt, worked, &mut mem, call(0, 0xff, 0, 1, 1, 0))?;
-    let ready = step(
-        &rt,
-        negotiated,
-        &mut mem,
+    let mut tables = worked.tables;
+    let events = [
+        // Group 1, and a ring of two entries for the mondos of cpu 1.
+        call(0, 0xff, 0, 1, 1, 0),
         call(1, 0x80, 0x14, 0x3c, 0x80, 2),
-    )?;
-    // The data, and the list 1, 1: the ring takes one of the two.
-    let a = step(&rt, ready, &mut mem, store(0x140, 0x1122334455667788))?;
-    let b = step(&rt, a, &mut mem, store(0x100, 0x0001000100000000))?;
-    let c = step(&rt, b, &mut mem, call(0, 0x80, 0x42, 2, 0x100, 0x140))?;
-    let d = step(&rt, c, &mut mem, load(0x100))?;
-    let e = step(&rt, d, &mut mem, load(0x80))?;
-    // The list 2, 0 names the caller, and the list 2 a cpu that is not there.
-    let f = step(&rt, e, &mut mem, store(0x100, 0x0002000000000000))?;
-    let g = step(&rt, f, &mut mem, call(0, 0x80, 0x42, 2, 0x100, 0x140))?;
-    step(&rt, g, &mut mem, call(0, 0x80, 0x42, 1, 0x100, 0x140))?;
+        // The data, and the list 1, 1: the ring takes one of the two.
+        store(0x140, 0x1122334455667788),
+        store(0x100, 0x0001000100000000),
+        call(0, 0x80, 0x42, 2, 0x100, 0x140),
+        load(0x100),
+        load(0x80),
+        // The list 2, 0 names the caller, and the list 2 a cpu that is not there.
+        store(0x100, 0x0002000000000000),
+        call(0, 0x80, 0x42, 2, 0x100, 0x140),
+        call(0, 0x80, 0x42, 1, 0x100, 0x140),
+    ];
+    for event in events {
+        step(&rt, &mut tables, &mut mem, event)?;
+    }
     Ok(())
 }
