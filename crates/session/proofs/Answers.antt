@@ -1,4 +1,5 @@
 -- What each thing that a line can ask for comes to.
+use Rattle.std.proofs.Common.{Ok, Err}
 use mathlib.Core.Path.{◌≡◌, refl, sym, ap, ◌∙◌}
 use mathlib.Core.Bool.{true}
 use mathlib.Core.List.{List}
@@ -18,12 +19,12 @@ use Rattle.rules.specs.Host.{HostOutcome, plant_rule, long_enough, host_event}
 use Rattle.rules.specs.Tables.{keep_rules}
 use Rattle.rules.specs.Text.{Line, bad, image, event, parse}
 use Rattle.rules.specs.Session.{Session, after_event, replied, text_of, printed_as, answered}
-use Rattle.records.specs.declared.Verdict.{Verdict}
+use Rattle.records.specs.Verdict.{Verdict}
 use Rattle.records.specs.Sound.{Sound}
 use Rattle.plants.specs.declared.change.Done.{Done}
 use Rattle.plants.specs.Changes.{plant_after}
 use Rattle.plants.specs.Follows.{Follows}
-use Rattle.host.specs.declared.door.Seat.{Seat}
+use Rattle.host.specs.Seats.{Seat}
 use Rattle.host.specs.Seats.{door_of, seat_of}
 use Rattle.host.proofs.DoorLaws.{door_tells, seat_told, seat_sound, seat_refuses, seat_follows}
 use Rattle.kept.proofs.Tables.{event_keeps}
@@ -46,12 +47,12 @@ module _ (tables : Tables) (memory line : List ℕ) where
   answers_image = go (parse line)
     where
       none : (e : Event) (s : Seat) → seat_of tables door e ≡ s → Asked.Image ≡ asked_of tables door e → ⊥
-      none e (Seat.Refused r) q p = let z : ◌≡◌ {A = ℕ} 0 1 = cc (p, q) in absurd (omega arith)
-      none e (Seat.Guest g) q p = let z : ◌≡◌ {A = ℕ} 0 1 = cc (p, q) in absurd (omega arith)
+      none e (Err r) q p = cc (p, q)
+      none e (Ok g) q p = cc (p, q)
 
       go : (l : Line) → Asked.Image ≡ asked tables door l
           → answered session l ≡ record { session = record { tables = (load (image_of l)).tables; memory = memory }; text = text_of (Reply.Image (load (image_of l)).answer) }
-      go bad p = let z : ◌≡◌ {A = ℕ} 0 1 = cc in absurd (omega arith)
+      go bad p = cc
       go (image bytes) p = refl
       go (event e) p = absurd (none e (seat_of tables door e) refl p)
 
@@ -66,28 +67,28 @@ module _ (tables : Tables) (memory line : List ℕ) where
     where
       of : (e : Event) (s : Seat) → seat_of tables door e ≡ s → Asked.Said reply ≡ asked_of tables door e
           → printed_as (after_event (host_event tables memory e)) ≡ record { session = session; text = text_of reply }
-      of e (Seat.Refused r) q p =
+      of e (Err r) q p =
           let w : Reply.Event (Answer.Refused r) ≡ reply = cc (p, q) in
           ap (λ (o : HostOutcome). printed_as (after_event o)) (seat_refuses tables memory e r q) ∙ ap (λ (y : Reply). record { session = session; text = text_of y }) w
-      of e (Seat.Guest g) q p = let z : ◌≡◌ {A = ℕ} 0 1 = cc (p, q) in absurd (omega arith)
+      of e (Ok g) q p = cc (p, q)
 
       go : (l : Line) → Asked.Said reply ≡ asked tables door l → answered session l ≡ record { session = session; text = text_of reply }
       go bad p = let w : Reply.Bad ≡ reply = cc in ap (λ (y : Reply). record { session = session; text = text_of y }) w
-      go (image bytes) p = let z : ◌≡◌ {A = ℕ} 0 1 = cc in absurd (omega arith)
+      go (image bytes) p = cc
       go (event e) p = of e (seat_of tables door e) refl p
 
   -- an event of a guest that is there
-  pub guest_seated : (g : ℕ) (e : Event) → Asked.Guest g e ≡ asked tables door (parse line) → (parse line ≡ event e) × (seat_of tables door e ≡ Seat.Guest g)
+  pub guest_seated : (g : ℕ) (e : Event) → Asked.Guest g e ≡ asked tables door (parse line) → (parse line ≡ event e) × (seat_of tables door e ≡ Ok g)
   unfolding asked asked_of
   guest_seated g e = go (parse line)
     where
-      of : (x : Event) (s : Seat) → seat_of tables door x ≡ s → Asked.Guest g e ≡ asked_of tables door x → (x ≡ e) × (seat_of tables door x ≡ Seat.Guest g)
-      of x (Seat.Refused r) q p = let z : ◌≡◌ {A = ℕ} 0 1 = cc (p, q) in absurd (omega arith)
-      of x (Seat.Guest h) q p = let w : h ≡ g = cc (p, q) in (cc (p, q), q ∙ ap Seat.Guest w)
+      of : (x : Event) (s : Seat) → seat_of tables door x ≡ s → Asked.Guest g e ≡ asked_of tables door x → (x ≡ e) × (seat_of tables door x ≡ Ok g)
+      of x (Err r) q p = cc (p, q)
+      of x (Ok h) q p = let w : h ≡ g = cc (p, q) in (cc (p, q), q ∙ ap Ok w)
 
-      go : (l : Line) → Asked.Guest g e ≡ asked tables door l → (l ≡ event e) × (seat_of tables door e ≡ Seat.Guest g)
-      go bad p = let z : ◌≡◌ {A = ℕ} 0 1 = cc in absurd (omega arith)
-      go (image bytes) p = let z : ◌≡◌ {A = ℕ} 0 1 = cc in absurd (omega arith)
+      go : (l : Line) → Asked.Guest g e ≡ asked tables door l → (l ≡ event e) × (seat_of tables door e ≡ Ok g)
+      go bad p = cc
+      go (image bytes) p = cc
       go (event x) p =
           let w = of x (seat_of tables door x) refl p in
           (ap event w.0, ap (λ (y : Event). seat_of tables door y) (sym w.0) ∙ w.1)

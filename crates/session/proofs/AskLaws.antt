@@ -1,4 +1,5 @@
 -- What a line asks for, at each return of the code.
+use Rattle.std.proofs.Common.{Ok, Err}
 use mathlib.Core.Path.{◌≡◌, refl, sym, ap, ◌∙◌}
 use mathlib.Core.List.{List}
 use Prim.Native.Nat.{ℕ, ◌≤◌}
@@ -13,8 +14,8 @@ use Rattle.rules.specs.declared.Reply.{Reply}
 use Rattle.rules.specs.declared.Tables.{Tables}
 use Rattle.rules.specs.Image.{load}
 use Rattle.rules.specs.Text.{Line, bad, image, event, parse}
-use Rattle.records.specs.declared.Verdict.{Verdict}
-use Rattle.host.specs.declared.door.Seat.{Seat}
+use Rattle.records.specs.Verdict.{Verdict}
+use Rattle.host.specs.Seats.{Seat}
 use Rattle.host.specs.Seats.{seat_of}
 use Rattle.text.specs.declared.line.Line.{Line as Told}
 use Rattle.text.specs.Lines.{told, image_of}
@@ -24,15 +25,6 @@ use Rattle.session.specs.Asking.{asked, asked_of}
 use Rattle.session.proofs.ReplyLaws.{front}
 
 module _ (tables : Tables) (door : Verdict) where
-  module _ (e : Event) (s : Seat) (p : s ≡ seat_of tables door e) where
-    pub seat_refused : (r : Refusal) → s ≡ Seat.Refused r → Asked.Said (Reply.Event (Answer.Refused r)) ≡ asked_of tables door e
-    unfolding asked_of
-    seat_refused r q = rw (← p, q)
-
-    pub seat_guest : (g : ℕ) → s ≡ Seat.Guest g → Asked.Guest g e ≡ asked_of tables door e
-    unfolding asked_of
-    seat_guest g q = rw (← p, q)
-
   module _ (line : List ℕ) (t : Told) (p : t ≡ told (parse line)) where
     pub line_bad : t ≡ Told.Bad → Asked.Said Reply.Bad ≡ asked tables door (parse line)
     unfolding asked told
@@ -57,8 +49,8 @@ module _ (tables : Tables) (door : Verdict) where
     line_event e r q f = go (parse line) (sym p ∙ q)
       where
         go : (l : Line) → told l ≡ Told.Event e → r ≡ asked tables door l
-        go bad x = let z : ◌≡◌ {A = ℕ} 0 1 = cc in absurd (omega arith)
-        go (image bytes) x = let z : ◌≡◌ {A = ℕ} 0 1 = cc in absurd (omega arith)
+        go bad x = cc
+        go (image bytes) x = cc
         go (event y) x = let w : e ≡ y = cc in f ∙ ap (asked_of tables door) w
 
 -- the bytes of an image, in a buffer of 1,024

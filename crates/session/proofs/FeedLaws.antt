@@ -130,33 +130,15 @@ pub record Room (piece before memory₀ memory out line : List ℕ) (held count 
 pub room_start : (piece out memory line : List ℕ) (held h : ℕ) → held ≡ min h 2049 → length line ≡ 2049 → Room piece out memory memory out line held 0 0
 room_start piece out memory line held h f l = record { turns = omega arith; printed = omega arith; kept = omega arith; line_long = l; memory_long = refl; out_long = refl }
 
--- the loop's test
-module _ (piece out : List ℕ) (i count : ℕ) where
-  pub goes_on : (ltb i (length piece) && leb 96 (length out - count)) ≡ true → (i < length piece) × (count + 96 ≤ length out)
-  goes_on e = go (ltb i (length piece)) (leb 96 (length out - count)) refl refl e
-    where
-      go : (s t : Bool) → ltb i (length piece) ≡ s → leb 96 (length out - count) ≡ t → (s && t) ≡ true → (i < length piece) × (count + 96 ≤ length out)
-      go true true p q e = (ltb-true i (length piece) p, omega (arith, leb-true 96 (length out - count) q))
-      go true false p q e = absurd (false≢true e)
-      go false t p q e = absurd (false≢true e)
-
-  pub stops : (ltb i (length piece) && leb 96 (length out - count)) ≡ false → (length piece ≤ i) ⊎ (length out < count + 96)
-  stops e = go (ltb i (length piece)) (leb 96 (length out - count)) refl refl e
-    where
-      go : (s t : Bool) → ltb i (length piece) ≡ s → leb 96 (length out - count) ≡ t → (s && t) ≡ false → (length piece ≤ i) ⊎ (length out < count + 96)
-      go false t p q e = inl (ltb-false i (length piece) p)
-      go true false p q e = inr (omega (arith, leb-false 96 (length out - count) q))
-      go true true p q e = absurd (true≢false e)
-
 -- One turn of the loop.
 module _ (start : Progress) (piece before memory₀ : List ℕ) (tables : Tables) (memory line : List ℕ) (held count i : ℕ) (out : List ℕ)
     (s : Room piece before memory₀ memory out line held count i) (f : Feeding start piece before tables memory line held count i out) where
   pub line_taken : held ≡ length (take held line)
   line_taken = sym (length-take-le held line (omega (arith, s.kept, s.line_long)))
 
-  module _ (t : (ltb i (length piece) && leb 96 (length out - count)) ≡ true) (b : ℕ) (e : b ≡ get_or piece i 0) where
+  module _ (h : i < length piece) (t : 96 ≤ length out - count) (b : ℕ) (e : b ≡ get_or piece i 0) where
     there : (i < length piece) × (count + 96 ≤ length before)
-    there = let w = goes_on piece out i count t in (w.0, omega (arith, w.1, s.out_long))
+    there = (h, omega (arith, s.out_long))
 
     module _ (o : b ≡ line_feed → ⊥) where
       pub turn_push : held < line_limit
@@ -206,11 +188,11 @@ module _ (start : Progress) (piece before memory₀ : List ℕ) (tables : Tables
         feeding_reply start piece before tables memory line held count i out f there.0 there.1 b e o reply tables' memory' a r out' w,
       )
 
-  pub turns_done : (ltb i (length piece) && leb 96 (length out - count)) ≡ false → (r : Fed) → r ≡ record { feeder = record { tables = tables; line = line; held = held }; taken = i; written = count }
+  pub turns_done : (length piece ≤ i) ⊎ (length out - count < 96) → (r : Fed) → r ≡ record { feeder = record { tables = tables; line = line; held = held }; taken = i; written = count }
       → Feeds (fed start (take (takes (length before) start piece) piece)) (takes (length before) start piece) before r memory out
   turns_done t r e =
       feeding_end start piece before tables memory line held count i out f
-      (⊎_elim (λ h. inl h) (λ h. inr (omega (arith, h, s.out_long))) (stops piece out i count t)) r e
+      (⊎_elim (λ h. inl h) (λ h. inr (omega (arith, s.out_long))) t) r e
 
 -- the code's numbers are the definition's
 pub feeds_as : (feeder : Feeder) (memory piece out : List ℕ) (held : ℕ) (r : Fed) (m w : List ℕ) → held ≡ min feeder.held 2049
@@ -218,20 +200,6 @@ pub feeds_as : (feeder : Feeder) (memory piece out : List ℕ) (held : ℕ) (r :
     → Feeds (feed_of feeder memory piece out) (room feeder memory piece out) out r m w
 unfolding feed_of
 feeds_as feeder memory piece out held r m w f x = rw (← f) x
-
--- the end of the input, where h bytes of a line are held
-module _ (feeder : Feeder) (h : ℕ) (memory out : List ℕ) (r : Fed) (m w : List ℕ) where
-  pub finish_none : h ≡ 0 → Feeds (feed_of feeder memory [] out) (room feeder memory [] out) out r m w → Feeds (feed_of feeder memory (ending h) out) (room feeder memory (ending h) out) out r m w
-  unfolding ending
-  finish_none e x = rw e x
-
-  pub finish_line : (h ≡ 0 → ⊥) → Feeds (feed_of feeder memory (line_feed ∷ []) out) (room feeder memory (line_feed ∷ []) out) out r m w → Feeds (feed_of feeder memory (ending h) out) (room feeder memory (ending h) out) out r m w
-  unfolding ending
-  finish_line n x = go h n
-    where
-      go : (k : ℕ) → (k ≡ 0 → ⊥) → Feeds (feed_of feeder memory (ending k) out) (room feeder memory (ending k) out) out r m w
-      go zero f = absurd (f refl)
-      go (suc k) f = x
 
 -- an image with no bit leaves no guest
 pub begins : (r : Loaded) → r ≡ load [] → record { tables = r.tables; line = replicate line_limit 0; held = 0 } ≡ at_first

@@ -10,7 +10,7 @@ use borrow.Author.Tests.{le-leb, leb-true}
 use lib.ListN.{length, take, length-append}
 use lib.Seq.{length-take-le, length-sets}
 use Rattle.rules.specs.declared.Answer.{Answer}
-use Rattle.rules.specs.declared.Loading.{Loading}
+use Rattle.rules.specs.Types.{Loading}
 use Rattle.rules.specs.Image.{load}
 use Rattle.rules.specs.Host.{host_event}
 use Rattle.rules.specs.Statuses.{numbers, loading_numbers}

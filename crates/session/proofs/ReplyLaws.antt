@@ -11,11 +11,6 @@ use Rattle.text.specs.Printed.{loading_text, answer_text}
 use Rattle.text.proofs.PrintLaws.{answer_most, loading_most}
 use Rattle.session.specs.Replies.{reply_text}
 
--- which reply the code's match told
-pub reply_as : (reply x : Reply) (at r : ℕ) (m o : List ℕ) → reply ≡ x → (r ≡ at + length (reply_text x)) × (o ≡ sets m at (reply_text x))
-    → (r ≡ at + length (reply_text reply)) × (o ≡ sets m at (reply_text reply))
-reply_as reply x at r m o e w = rw e w
-
 pub reply_most : (reply : Reply) → length (reply_text reply) ≤ 85
 unfolding reply_text text_of loading_text answer_text
 reply_most Reply.Bad = omega arith

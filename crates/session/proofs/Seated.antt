@@ -1,5 +1,5 @@
 -- The guest whose plant `feed` holds apart from its tables. What counts are the tables with that plant put back.
-use Rattle.std.specs.Prelude.{if◌then◌else◌}
+use Rattle.std.specs.Prelude.{if◌then◌else◌, Ok, Err}
 use mathlib.Core.Path.{◌≡◌, refl, sym, ap, ◌∙◌, subst}
 use mathlib.Core.Bool.{Bool, true, false}
 use mathlib.Core.List.{List}
@@ -22,7 +22,7 @@ use Rattle.rules.specs.Real.{sight_of}
 use Rattle.rules.specs.Host.{owner_of, plant_rule}
 use Rattle.rules.specs.Text.{Line, bad, image, event, parse}
 use Rattle.rules.specs.Session.{text_of, answered}
-use Rattle.records.specs.declared.Verdict.{Verdict}
+use Rattle.records.specs.Verdict.{Verdict}
 use Rattle.records.specs.Sound.{Sound}
 use Rattle.plants.specs.declared.change.Done.{Done}
 use Rattle.plants.specs.Changes.{plant_after}
@@ -54,8 +54,8 @@ module _ (a b : Tables) (s : Steady a b) (door : Verdict) where
   seat_same e = go door
     where
       go : (v : Verdict) → seat_of b v e ≡ seat_of a v e
-      go Verdict.Right = ap (seat_for b.guests) (owner_same a b s e) ∙ ap (λ (n : ℕ). seat_for n (owner_of a e)) s.guests
-      go (Verdict.Refused r) = refl
+      go (Ok u) = ap (seat_for b.guests) (owner_same a b s e) ∙ ap (λ (n : ℕ). seat_for n (owner_of a e)) s.guests
+      go (Err r) = refl
 
   pub asked_same : (l : Line) → asked b door l ≡ asked a door l
   unfolding asked asked_of
@@ -103,38 +103,6 @@ module _ (tables : Tables) (n : ℕ) (door : Verdict) (g : ℕ) (extents : Exten
   pub asked_all : (l : Line) (x y : Asked) → x ≡ asked tables door l → x ≡ y → y ≡ asked all (door_of all n) l
   asked_all l x y p q = sym q ∙ p ∙ sym (asked_same tables all s.steady door l) ∙ ap (λ (v : Verdict). asked all v l) s.whole
 
--- 1 where a line is of another guest than g: after its guest has been seated it is 0
-unfoldable pub apart : Asked → ℕ → ℕ
-apart (Asked.Said reply) g = 0
-apart Asked.Image g = 0
-apart (Asked.Guest h e) g = if eqb h g then 0 else 1
-
-pub apart_most : (x : Asked) (g : ℕ) → apart x g ≤ 1
-unfolding apart
-apart_most (Asked.Said reply) g = omega arith
-apart_most Asked.Image g = omega arith
-apart_most (Asked.Guest h e) g = go (eqb h g)
-  where
-    go : (t : Bool) → (if t then 0 else 1) ≤ 1
-    go true = omega arith
-    go false = omega arith
-
-pub apart_same : (g : ℕ) (e : Event) → apart (Asked.Guest g e) g ≡ 0
-unfolding apart
-apart_same g e = rw (eq-eqb g g refl)
-
-pub apart_other : (h g : ℕ) (e : Event) → (h ≡ g → ⊥) → apart (Asked.Guest h e) g ≡ 1
-unfolding apart
-apart_other h g e n = rw (ne_eqb h g n)
-
--- seating the guest of a line
-pub seats_less : (tables : Tables) (n : ℕ) (door : Verdict) (g : ℕ) (extents : Extents) (plant : Plant) → Seated tables n door g extents plant
-    → (l : Line) (x : Asked) (h : ℕ) (e : Event) → x ≡ asked tables door l → x ≡ Asked.Guest h e → (h ≡ g → ⊥)
-    → (apart (asked tables door l) g ≡ 1) × (apart (asked (with_plant tables g plant) door l) h ≡ 0)
-seats_less tables n door g extents plant s l x h e p q o =
-    let w : asked tables door l ≡ Asked.Guest h e = sym p ∙ q in
-    (rw w (apart_other h g e o), rw (asked_same tables (with_plant tables g plant) s.steady door l, w) (apart_same h e))
-
 -- An event of the guest that sits: p is what its line asks for.
 module _ (tables : Tables) (memory line : List ℕ) (door : Verdict) (g : ℕ) (extents : Extents) (plant : Plant) (s : Seated tables (length memory) door g extents plant)
     (e : Event) (p : Asked.Guest g e ≡ asked (with_plant tables g plant) (door_of (with_plant tables g plant) (length memory)) (parse line)) where
@@ -171,3 +139,12 @@ module _ (tables : Tables) (memory line : List ℕ) (door : Verdict) (g : ℕ) (
       as_is = s.as_is ∙ ap (door_of tables) (sym event_memory);
       whole = s.whole ∙ sym (door_same T memory line g e p d after follows (with_plant tables g next) put_back);
     }
+
+-- What the code was told, x, and what its match told of it: an event of guest h, who is there, and who may sit already.
+module _ (tables : Tables) (memory line : List ℕ) (door : Verdict) (g : ℕ) (extents : Extents) (plant : Plant) (s : Seated tables (length memory) door g extents plant)
+    (h : ℕ) (e : Event) (x : Asked) (p : x ≡ asked tables door (parse line)) (q : x ≡ Asked.Guest h e) where
+  pub asked_told : Asked.Guest h e ≡ asked (with_plant tables g plant) (door_of (with_plant tables g plant) (length memory)) (parse line)
+  asked_told = asked_all tables (length memory) door g extents plant s (parse line) x (Asked.Guest h e) p q
+
+  pub asked_there : h < guest_limit
+  asked_there = (guest_fine (with_plant tables g plant) memory line h e asked_told).0

@@ -1,37 +1,35 @@
 // What a line asks for, and of whom.
-ghost use Rattle.std.specs.Prelude.{◌≡◌, true};
+ghost use Rattle.std.specs.Prelude.{◌≡◌, true, is_ok};
 ghost use Rattle.rules.specs.Tables.{keep_rules};
 ghost use Rattle.rules.specs.Text.{parse};
 ghost use Rattle.rules.specs.Image.{load};
-ghost use Rattle.records.specs.Verdict.{is_right};
 ghost use Rattle.text.specs.Lines.{image_of};
 ghost use Rattle.session.specs.Asking.{asked, asked_of};
 
-use host::Seat;
-use records::Verdict;
-use rules::{Answer, Event, Loaded, Reply, Tables};
+use rules::{Answer, Event, Loaded, Refusal, Reply, Tables};
 use text::Line;
 
 // Nothing but the reply, as it is no line or an event that is refused at the door; an image; an event of a guest that is there.
-#[derive(Clone, Copy)]
+#[derive(Clone, Copy, PartialEq, Eq)]
 pub enum Asked {
     Said(Reply),
     Image,
     Guest(usize, Event),
 }
 
-fn ask_event(tables: Tables, door: Verdict, event: Event) -> Asked
-    requires { is_right door ≡ true → keep_rules tables ≡ true }
+#[tactic(auto, unfolding(crate::specs::Asking::asked_of))]
+fn ask_event(tables: Tables, door: Result<(), Refusal>, event: Event) -> Asked
+    requires { is_ok door ≡ true → keep_rules tables ≡ true }
     ensures { result ≡ asked_of tables door event }
 {
     match host::seat_of(tables, door, event) {
-        Seat::Refused(r) => Asked::Said(Reply::Event(Answer::Refused(r))),
-        Seat::Guest(g) => Asked::Guest(g, event),
+        Err(r) => Asked::Said(Reply::Event(Answer::Refused(r))),
+        Ok(g) => Asked::Guest(g, event),
     }
 }
 
-pub(crate) fn ask(tables: Tables, door: Verdict, line: &[u8]) -> Asked
-    requires { is_right door ≡ true → keep_rules tables ≡ true }
+pub(crate) fn ask(tables: Tables, door: Result<(), Refusal>, line: &[u8]) -> Asked
+    requires { is_ok door ≡ true → keep_rules tables ≡ true }
     ensures { result ≡ asked tables door (parse line.now) }
 {
     match text::parse_line(line) {
@@ -45,7 +43,7 @@ pub(crate) fn ask(tables: Tables, door: Verdict, line: &[u8]) -> Asked
 pub fn load_line(line: &[u8]) -> Loaded
     ensures { result ≡ load (image_of (parse line.now)) }
 {
-    let mut bytes = [0u8; 1024];
+    let mut bytes = [0; 1024];
     let n = text::image_bytes(line, &mut bytes);
     image::load(&bytes[..n])
 }

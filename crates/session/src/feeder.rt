@@ -3,10 +3,9 @@ ghost use Rattle.std.specs.Prelude.{◌≡◌};
 ghost use Rattle.session.specs.Feeding.{feed_of, Feeds, at_first, ending, room};
 
 use crate::ask::{Asked, ask, load_line};
+use crate::change::change;
 use crate::reply::{REPLY, put_reply};
-use memory::least;
-use plants::{Change, CpuChange, all_disabled, cpu_after, cpu_at_tail};
-use rules::{CPUS, Reply, SOURCES, Tables};
+use rules::{Reply, Tables};
 
 // As many bytes as are kept of a line: one more than the longest has, which is enough to tell that it is too long.
 pub const LINE: usize = 2049;
@@ -31,10 +30,8 @@ pub struct Fed {
 pub fn begin() -> Feeder
     ensures { result ≡ at_first }
 {
-    let loaded = image::load(b"");
-    let tables = loaded.tables;
     Feeder {
-        tables,
+        tables: image::load(b"").tables,
         line: [0; LINE],
         held: 0,
     }
@@ -42,9 +39,9 @@ pub fn begin() -> Feeder
 
 // Takes bytes of the piece while there is room for one more answer: any byte can end a line, and an answer has at most REPLY bytes.
 // The door is looked at once, and again after each image: no event changes what it comes to.
-// The plant of guest g, who was asked last, is held apart from the tables, since a record can be changed in place only where it is a
-// variable of its own; it is put back for another guest and at the end. What a line asks for is seen from the tables as they are,
-// since no event changes who owns a source.
+// Guest g, who was asked last, is held apart from the tables, so that no guest is copied out of them and back for each event; it is
+// put back for another guest and at the end. What a line asks for is seen from the tables as they are, since no event changes who
+// owns a source.
 pub fn feed(feeder: Feeder, mem: &mut [u8], piece: &[u8], out: &mut [u8]) -> Fed
     ensures { Feeds (feed_of feeder mem.old piece.now out.old)
         (room feeder mem.old piece.now out.old)
@@ -52,114 +49,59 @@ pub fn feed(feeder: Feeder, mem: &mut [u8], piece: &[u8], out: &mut [u8]) -> Fed
 {
     let mut tables = feeder.tables;
     let mut line = feeder.line;
-    let mut held = least(feeder.held, LINE);
+    let mut held = feeder.held.min(LINE);
     let mut door = host::door_of(tables, mem.len());
     let mut g = 0;
-    let first = tables.guest[0];
-    let mut extents = first.extents;
-    let mut plant = first.plant;
+    let mut guest = tables.guest[0];
     let mut at = 0;
-    let mut i = 0;
-    while (i < piece.len()) & (REPLY <= out.len() - at) {
-        let b = piece[i];
-        if b != b'\n' {
+    let mut taken = piece.len();
+    for (i, b) in piece.iter().enumerate() {
+        if out.len() - at < REPLY {
+            taken = i;
+            break;
+        }
+        if *b != b'\n' {
             if held < LINE {
-                line[held] = b;
+                line[held] = *b;
                 held += 1;
             }
-            i += 1;
             continue;
         }
         match ask(tables, door, &line[..held]) {
             Asked::Said(reply) => at = put_reply(reply, out, at),
             Asked::Image => {
                 let loaded = load_line(&line[..held]);
-                let after = loaded.tables;
-                tables = after;
+                tables = loaded.tables;
                 door = host::door_of(tables, mem.len());
                 g = 0;
-                let first = tables.guest[0];
-                extents = first.extents;
-                plant = first.plant;
-                let answer = loaded.answer;
-                at = put_reply(Reply::Image(answer), out, at);
+                guest = tables.guest[0];
+                at = put_reply(Reply::Image(loaded.answer), out, at);
             }
             Asked::Guest(h, event) => {
                 if h != g {
-                    // The line is looked at again, with its guest in the other's place.
-                    let mut other = tables.guest[g];
-                    other.plant = plant;
-                    tables.guest[g] = other;
+                    tables.guest[g].plant = guest.plant;
                     g = h;
-                    let guest = tables.guest[g];
-                    extents = guest.extents;
-                    plant = guest.plant;
-                    continue;
+                    guest = tables.guest[g];
                 }
-                let c = calls::cpu_of(plant, event);
-                let own = plant.cpu[c];
-                let done = calls::plant_event(extents, plant, own, mem, event);
-                let change = done.change;
-                match change {
-                    Change::Nothing => {}
-                    Change::Versions(v) => plant.versions = v,
-                    Change::Disabled(v) => {
-                        plant.versions = v;
-                        let source = plant.source;
-                        let off = all_disabled(source);
-                        plant.source = off;
-                    }
-                    Change::Cpu(c, part) => {
-                        if c < CPUS {
-                            let cpu = plant.cpu[c];
-                            let tsbs = done.tsbs;
-                            plant.cpu[c] = cpu_after(cpu, part, tsbs);
-                        }
-                    }
-                    Change::Source(k, s) => {
-                        if k < SOURCES {
-                            plant.source[k] = s;
-                        }
-                    }
-                    Change::Delivered(k, s, c, queue) => {
-                        if k < SOURCES {
-                            if c < CPUS {
-                                plant.source[k] = s;
-                                let cpu = plant.cpu[c];
-                                let tsbs = done.tsbs;
-                                plant.cpu[c] = cpu_after(cpu, CpuChange::Queue(1, queue), tsbs);
-                            }
-                        }
-                    }
-                    Change::Tails => {
-                        let tails = done.tails;
-                        let cpus = plant.cpus as usize;
-                        let mut k = 0;
-                        while k < cpus {
-                            let cpu = plant.cpu[k];
-                            plant.cpu[k] = cpu_at_tail(cpu, tails[k]);
-                            k += 1;
-                        }
-                    }
-                }
-                let answer = done.answer;
-                at = put_reply(Reply::Event(answer), out, at);
+                let c = calls::cpu_of(guest.plant, event);
+                let own = guest.plant.cpu[c];
+                let done = calls::plant_event(guest.extents, guest.plant, own, mem, event);
+                change(&mut guest.plant, done);
+                at = put_reply(Reply::Event(done.answer), out, at);
             }
         }
         held = 0;
-        i += 1;
     }
-    let mut last = tables.guest[g];
-    last.plant = plant;
-    tables.guest[g] = last;
+    tables.guest[g] = guest;
     Fed {
         feeder: Feeder { tables, line, held },
-        taken: i,
+        taken,
         written: at,
     }
 }
 
 // The end of the input ends a line that has been begun.
+#[tactic(auto, unfolding(crate::specs::Feeding::ending))]
 pub fn finish(feeder: Feeder, mem: &mut [u8], out: &mut [u8]) -> Fed
     ensures { Feeds (feed_of feeder mem.old (ending feeder.held) out.old)
         (room feeder mem.old (ending feeder.held) out.old)

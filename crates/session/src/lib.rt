@@ -2,6 +2,7 @@
 #![tactic(auto)]
 
 mod ask;
+mod change;
 mod feeder;
 mod reply;
 

@@ -9,6 +9,7 @@ use rules::Reply;
 pub const REPLY: usize = 96;
 
 // The text of a reply, with the line feed, from the place at on; gives the place behind it.
+#[tactic(auto, unfolding(crate::specs::Replies::reply_text, rules::specs::Session::text_of, text::specs::Printed::loading_text, text::specs::Printed::answer_text))]
 pub(crate) fn put_reply(reply: Reply, out: &mut [u8], at: usize) -> usize
     requires { at + 96 ≤ length out.old }
     ensures { (result ≡ at + length (reply_text reply)) × (out.new ≡ sets out.old at (reply_text reply)) }
