@@ -3,8 +3,8 @@ ghost use Rattle.std.specs.Prelude.{◌≡◌};
 ghost use Rattle.session.specs.Feeding.{feed_of, Feeds, at_first, ending, room};
 
 use crate::ask::{Asked, ask, load_line};
-use crate::change::change;
 use crate::reply::{REPLY, put_reply};
+use plants::change_plant;
 use rules::{Reply, Tables};
 
 // As many bytes as are kept of a line: one more than the longest has, which is enough to tell that it is too long.
@@ -86,7 +86,7 @@ pub fn feed(feeder: Feeder, mem: &mut [u8], piece: &[u8], out: &mut [u8]) -> Fed
                 let c = calls::cpu_of(guest.plant, event);
                 let own = guest.plant.cpu[c];
                 let done = calls::plant_event(guest.extents, guest.plant, own, mem, event);
-                change(&mut guest.plant, done);
+                change_plant(&mut guest.plant, done);
                 at = put_reply(Reply::Event(done.answer), out, at);
             }
         }

@@ -2,7 +2,6 @@
 #![tactic(auto)]
 
 mod ask;
-mod change;
 mod feeder;
 mod reply;
 

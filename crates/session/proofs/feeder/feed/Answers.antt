@@ -66,8 +66,8 @@ plant_event-done-requires-clause-sound c =
       | else-h-g v ↦ (sits_still _ _ _ _ _ _ _ _ _ _ _ _ _ l.invariant.1.1 l.invariant.1.2 _ _ _ c.ask.ensures c.in-Guest.is _ _ _ v.if-h-g.false v.tables-is v.g-is v.guest-is).sound
     ]
 
-pub change-requires : goal.change-requires
-change-requires c =
+pub change_plant-requires : goal.change_plant-requires
+change_plant-requires c =
     let l = c.loop-i in
     elim c.if-h-g.branch [
       | then-h-g v ↦ (sits_down _ _ _ _ _ _ _ _ _ _ _ _ _ l.invariant.1.1 l.invariant.1.2 _ _ _ c.ask.ensures c.in-Guest.is _ _ _ v.tables-is v.g-is v.guest-is).sound.cpus
@@ -95,7 +95,7 @@ loop-i-preserved c =
             | then-h-g v ↦ (sits_down _ _ _ _ _ _ _ _ _ _ _ _ _ l.invariant.1.1 l.invariant.1.2 _ _ _ c.ask.ensures w.in-Guest.is _ _ _ v.tables-is v.g-is v.guest-is)
             | else-h-g v ↦ (sits_still _ _ _ _ _ _ _ _ _ _ _ _ _ l.invariant.1.1 l.invariant.1.2 _ _ _ c.ask.ensures w.in-Guest.is _ _ _ v.if-h-g.false v.tables-is v.g-is v.guest-is)
           ] in
-          let q = w.change.ensures in
+          let q = w.change_plant.ensures in
           let d = w.plant_event-done.ensures in
           let m = event_memory _ l.mem line _ _ _ _ sits.seated _ sits.asks _ _ d _ q in
           let t = turn_reply _ _ _ _ _ _ _ _ _ _ _ l.invariant.1.0 sits.feeding c.loop-i-test.true c.if-out-at-lt-REPLY.false _ refl c.if-b-ne10.false _ _ _ m (event_answered _ l.mem line _ _ _ _ sits.seated _ sits.asks _ _ d _ q) _ _ w.put_reply-at-in-Guest.ensures in
