@@ -33,6 +33,7 @@ fn hits_offset(side: u64, context: u64, index: u64) -> u64
 }
 
 // One hit of so many ticks more, in the hits word at a real address and the ticks word behind it. Both are read before one is written.
+#[tactic(auto, using(crate::proofs::HitLaws::first_valid, crate::proofs::HitLaws::second_valid), unfolding(rules::specs::Real::word_bytes, rules::specs::Real::apply))]
 fn count(extents: Extents, mem: &mut [u8], at: u64, ticks: u64)
     requires extents_le_extent_limit { extents.extents ≤ extent_limit }
     requires ready { Ready (present extents) (length mem.old) }
@@ -40,13 +41,15 @@ fn count(extents: Extents, mem: &mut [u8], at: u64, ticks: u64)
     ensures { mem.new ≡ apply (present extents) mem.old
         (adds (byte_at (present extents) mem.old) at 1 ∷ adds (byte_at (present extents) mem.old) (at + 8) ticks ∷ []) }
 {
+    let behind = Real(at + 8);
     let hits_word = memory::word_bytes(sum_at(extents, mem, Real(at), 1));
-    let ticks_word = memory::word_bytes(sum_at(extents, mem, Real(at + 8), ticks));
+    let ticks_word = memory::word_bytes(sum_at(extents, mem, behind, ticks));
     memory::write_at(extents, mem, Real(at), &hits_word);
-    memory::write_at(extents, mem, Real(at + 8), &ticks_word);
+    memory::write_at(extents, mem, behind, &ticks_word);
 }
 
 // own is the record of the cpu that hit.
+#[tactic(auto, using(crate::proofs::HitLaws::index_most), unfolding(rules::specs::Hits::tsb_hit, rules::specs::Real::apply, plants::specs::Changes::done_by, plants::specs::Changes::plant_after, plants::specs::Changes::changed_by))]
 pub fn tsb_hit(
     extents: Extents,
     own: Cpu,
