@@ -1,7 +1,7 @@
 -- The rules of TSB lists at each return of the code, from the tests on the way.
 use Rattle.std.proofs.Common.{Result, Ok, Err}
 use mathlib.Core.Path.{◌≡◌, refl, sym, ◌∙◌}
-use mathlib.Core.Bool.{Bool, true, false, ◌&&◌, not}
+use mathlib.Core.Bool.{Bool, true, ◌&&◌, not}
 use mathlib.Core.List.{List}
 use mathlib.Core.Logic.{⊎_elim}
 use Prim.Native.Nat.{ℕ, zero, suc, ◌+◌, ◌*◌, ◌%◌, ◌≤◌, ◌<◌}
@@ -10,12 +10,10 @@ use native.Mathlib.Numerals.{add-one}
 use native.Mathlib.Omega.{arith}
 use lib.Dec.{eqb}
 use lib.ListN.{set}
-use borrow.Author.Tests.{le-leb, lt-leb, eq-eqb, ne_eqb, not-true, not-false}
 use Rattle.rules.specs.declared.Answer.TheVariants.{Done, Refused}
 use Rattle.rules.specs.declared.Extents.{Extents}
 use Rattle.rules.specs.declared.Plant.{Plant}
 use Rattle.rules.specs.declared.Refusal.{Refusal}
-use Rattle.rules.specs.declared.Refusal.TheVariants.{EINVAL, EBADALIGN, ENORADDR}
 use Rattle.rules.specs.declared.Tsb.{Tsb}
 use Rattle.rules.specs.declared.Tsbs.{Tsbs}
 use Rattle.rules.specs.Kept.{blank_tsbs}
@@ -99,31 +97,6 @@ module _ (s : Sight) (pointer : ℕ) where
   pub listed_all : (i n : ℕ) (list : List Tsb) → descriptors s pointer i ≡ granted list → i ≡ n → listed s pointer n ≡ ruled (Ok (record { tsbs = n; tsb = list }))
   unfolding listed ruled
   listed_all i n list e q = rw (← q, e)
-
--- a new list
-module _ (s : Sight) (ntsb pointer : ℕ) where
-  pub tsbs_none : ntsb ≡ 0 → new_tsbs s ntsb pointer ≡ ruled (Ok blank_tsbs)
-  unfolding new_tsbs ruled
-  tsbs_none z = rw (eq-eqb ntsb 0 z)
-
-  module _ (z : ntsb ≡ 0 → ⊥) where
-    pub tsbs_many : 4 < ntsb → new_tsbs s ntsb pointer ≡ ruled (Err EINVAL)
-    unfolding new_tsbs ruled
-    tsbs_many h = rw (ne_eqb ntsb 0 z, lt-leb ntsb 4 h)
-
-    module _ (h : ntsb ≤ 4) where
-      pub tsbs_align : (pointer % 8 ≡ 0 → ⊥) → new_tsbs s ntsb pointer ≡ ruled (Err EBADALIGN)
-      unfolding new_tsbs ruled
-      tsbs_align a = rw (ne_eqb ntsb 0 z, le-leb ntsb 4 h, ne_eqb (pointer % 8) 0 a)
-
-      module _ (a : pointer % 8 ≡ 0) (b : Bool) (p : b ≡ s.valid pointer (32 * ntsb)) where
-        pub tsbs_range : not b ≡ true → new_tsbs s ntsb pointer ≡ ruled (Err ENORADDR)
-        unfolding new_tsbs ruled
-        tsbs_range e = rw (ne_eqb ntsb 0 z, le-leb ntsb 4 h, eq-eqb (pointer % 8) 0 a, ← p, not-true b e)
-
-        pub tsbs_listed : not b ≡ false → (r : Result Tsbs Refusal) → listed s pointer ntsb ≡ ruled r → new_tsbs s ntsb pointer ≡ ruled r
-        unfolding new_tsbs listed
-        tsbs_listed e r d = rw (ne_eqb ntsb 0 z, le-leb ntsb 4 h, eq-eqb (pointer % 8) 0 a, ← p, not-false b e) d
 
 module _ (extents : Extents) (plant : Plant) (m : List ℕ) (cpu ntsb pointer : ℕ) (how : Tsbs → CpuChange) (d : Gave) where
   -- by what the list came to

@@ -30,6 +30,7 @@ pub fn mmustat_conf(extents: Extents, own: Cpu, cpu: usize, address: u64) -> Don
 }
 
 // 0x103: the address.
+#[tactic(auto, unfolding(rules::specs::Memory::mmustat_info))]
 pub fn mmustat_info(own: Cpu) -> Answer
     ensures { (plant : PlantRecord) (cpu : ℕ) → cpu_at plant cpu ≡ own → saying plant result ≡ outcome_of plant (mmustat_info plant cpu) }
 {

@@ -50,6 +50,7 @@ fn read_tsbs(extents: Extents, mem: &[u8], count: u8, pointer: u64) -> Result<Ts
 }
 
 // The list that 0x20 and 0x21 set.
+#[tactic(auto, unfolding(rules::specs::Tsb::new_tsbs, crate::specs::Lists::listed, crate::specs::Lists::ruled))]
 fn new_tsbs(extents: Extents, mem: &[u8], ntsb: u64, pointer: u64) -> Result<Tsbs, Refusal>
     requires extents_le_extent_limit { extents.extents ≤ extent_limit }
     requires ready { Ready (present extents) (length mem.now) }
