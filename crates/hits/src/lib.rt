@@ -49,7 +49,7 @@ fn count(extents: Extents, mem: &mut [u8], at: u64, ticks: u64)
 }
 
 // own is the record of the cpu that hit.
-#[tactic(auto, using(crate::proofs::HitLaws::index_most), unfolding(rules::specs::Hits::tsb_hit, rules::specs::Real::apply, plants::specs::Changes::done_by, plants::specs::Changes::plant_after, plants::specs::Changes::changed_by))]
+#[tactic(auto, using(plants::proofs::OutcomeLaws::outcomes, crate::proofs::HitLaws::index_most), unfolding(rules::specs::Hits::tsb_hit, rules::specs::Real::apply))]
 pub fn tsb_hit(
     extents: Extents,
     own: Cpu,

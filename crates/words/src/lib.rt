@@ -55,7 +55,7 @@ fn judge_word(extents: Extents, address: u64) -> Result<(), Refusal>
 }
 
 // 0x31: the first bytes of a range of pages become 0.
-#[tactic(auto, using(crate::proofs::WordLaws::scrub_first), unfolding(rules::specs::Memory::mem_scrub, plants::specs::Judged::judged, rules::specs::Real::apply, plants::specs::Changes::done_by, plants::specs::Changes::plant_after, plants::specs::Changes::changed_by))]
+#[tactic(auto, using(plants::proofs::OutcomeLaws::outcomes, crate::proofs::WordLaws::scrub_first), unfolding(rules::specs::Memory::mem_scrub, plants::specs::Judged::judged, rules::specs::Real::apply))]
 pub fn mem_scrub(extents: Extents, mem: &mut [u8], address: u64, size: u64) -> Done
     requires extents_le_extent_limit { extents.extents ≤ extent_limit }
     requires ready { Ready (present extents) (length mem.old) }
@@ -74,7 +74,7 @@ pub fn mem_scrub(extents: Extents, mem: &mut [u8], address: u64, size: u64) -> D
 }
 
 // 0x32: nothing is kept back, so all of a range of pages is there at once.
-#[tactic(auto, unfolding(rules::specs::Memory::mem_sync, plants::specs::Judged::judged, plants::specs::Changes::done_by, plants::specs::Changes::plant_after, plants::specs::Changes::changed_by))]
+#[tactic(auto, using(plants::proofs::OutcomeLaws::outcomes), unfolding(rules::specs::Memory::mem_sync, plants::specs::Judged::judged))]
 pub fn mem_sync(extents: Extents, address: u64, size: u64) -> Done
     requires { extents.extents ≤ extent_limit }
     ensures { (plant : PlantRecord) → quietly plant result ≡ outcome_of plant (mem_sync (valid (present extents)) plant address size) }
@@ -105,7 +105,7 @@ pub fn store_word(extents: Extents, mem: &mut [u8], address: u64, value: u64) ->
 }
 
 // A load of one word.
-#[tactic(auto, using(crate::proofs::WordLaws::word_valid), unfolding(rules::specs::Memory::load_word, plants::specs::Judged::judged, rules::specs::Real::apply, plants::specs::Changes::done_by, plants::specs::Changes::plant_after, plants::specs::Changes::changed_by))]
+#[tactic(auto, using(plants::proofs::OutcomeLaws::outcomes, crate::proofs::WordLaws::word_valid), unfolding(rules::specs::Memory::load_word, plants::specs::Judged::judged, rules::specs::Real::apply))]
 pub fn load_word(extents: Extents, mem: &[u8], address: u64) -> Done
     requires extents_le_extent_limit { extents.extents ≤ extent_limit }
     requires ready { Ready (present extents) (length mem.now) }
