@@ -42,11 +42,7 @@ pub fn extent_right(x: Extent) -> bool
 fn extent_at(e: Extents, i: usize) -> Extent
     ensures { result ≡ extent_at e i }
 {
-    if i < EXTENTS {
-        e.extent[i]
-    } else {
-        blank::extent()
-    }
+    e.extent.get(i).copied().unwrap_or(blank::extent())
 }
 
 fn right_at(e: Extents, i: usize) -> bool
@@ -77,9 +73,9 @@ fn first_breaking<F: Fn(Extents, usize) -> bool>(t: Tables, holds: F) -> Option<
     requires { F.IsAlwaysCallable holds }
     ensures { (rule : Extents → ℕ → Bool) → Holds (F.post holds) rule → result ≡ first_breaking rule t }
 {
-    (0..RUNS).find(|k| {
-        let e = t.guest[*k / EXTENTS].extents;
-        let i = *k % EXTENTS;
+    (0..RUNS).find(|&k| {
+        let e = t.guest[k / EXTENTS].extents;
+        let i = k % EXTENTS;
         i < usize::from(e.extents) && !holds(e, i)
     })
 }
