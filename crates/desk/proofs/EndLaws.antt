@@ -1,7 +1,10 @@
 -- Laws of lines, as the loops go through the input: i is the index of the loop over a line's bytes.
-use Rattle.std.specs.Prelude.{if◌then◌else◌}
-use mathlib.Core.Bool.{Bool, true, false}
-use mathlib.Core.Path.{◌≡◌, refl, sym, ◌∙◌}
+use Rattle.std.specs.Prelude.{if◌then◌else◌, Option, Some, None, nat_lt, unwrap_or}
+use Rattle.std.specs.List.{position, position_or_len}
+use Rattle.std.proofs.lemmas.List.{take_rest}
+use Rattle.std.proofs.lemmas.List.Recursion.{is_position_or_len}
+use mathlib.Core.Bool.{Bool, true, false, cond}
+use mathlib.Core.Path.{◌≡◌, refl, sym, ap, ◌∙◌}
 use mathlib.Core.List.{List, [], ◌∷◌, ◌++◌, append_assoc, append-nil}
 use Prim.Native.Nat.{ℕ, suc, ◌+◌, ◌-◌, ◌<◌, ◌≤◌}
 use native.Mathlib.Numerals.{add-one}
@@ -9,32 +12,12 @@ use native.Mathlib.Omega.{arith}
 use lib.Dec.{eqb}
 use lib.ListN.{length, get_or, take, drop, length-append, length-drop, drop_of_length-le}
 use lib.Seq.{drop-cons, drop-drop}
-use borrow.Author.Tests.{eq-eqb, ne_eqb}
+use borrow.Author.Tests.{ltb-false}
 use Rattle.rules.specs.declared.Desk.{Desk}
 use Rattle.rules.specs.Text.{line_feed}
 use Rattle.rules.specs.Session.{lines_from}
 use Rattle.rules.specs.Plan.{stepped, steps, fresh, desk_after}
 use Rattle.desk.specs.Ends.{line_length}
-
--- the line that starts at the place from
-module _ (s : List ℕ) (from i : ℕ) (e : i + line_length (drop i s) ≡ from + line_length (drop from s)) where
-  pub end_found : i < length s → get_or s i 0 ≡ line_feed → i ≡ from + line_length (drop from s)
-  unfolding line_length
-  end_found h q =
-      let z : line_length (drop i s) ≡ 0 = rw (drop-cons s i 0 h, eq-eqb _ _ q) in
-      omega arith
-
-  pub end_next : i < length s → (get_or s i 0 ≡ line_feed → ⊥) → i + 1 + line_length (drop (i + 1) s) ≡ from + line_length (drop from s)
-  unfolding line_length
-  end_next h n =
-      let z : line_length (drop i s) ≡ suc (line_length (drop (i + 1) s)) = rw (drop-cons s i 0 h, ne_eqb _ _ n, add-one) in
-      omega arith
-
-  pub end_last : length s ≤ i → i ≡ from + line_length (drop from s)
-  unfolding line_length
-  end_last l =
-      let z : line_length (drop i s) ≡ 0 = rw (drop_of_length-le s l) in
-      omega arith
 
 pub length_within : (bs : List ℕ) → line_length bs ≤ length bs
 unfolding line_length
@@ -44,6 +27,31 @@ length_within (b ∷ bs) = go (eqb b line_feed) (length_within bs)
     go : (t : Bool) → line_length bs ≤ length bs → (if t then 0 else suc (line_length bs)) ≤ suc (length bs)
     go true w = omega arith
     go false w = omega arith
+
+-- the first line ends at the first line feed, or at the end
+line_is : (bs : List ℕ) → line_length bs ≡ position_or_len (λ (b : ℕ). eqb b line_feed) bs
+unfolding line_length
+line_is = is_position_or_len line_length (λ (b : ℕ). eqb b line_feed) refl step
+  where
+    step : (b : ℕ) (bs : List ℕ) → line_length (b ∷ bs) ≡ cond (eqb b line_feed) 0 (1 + line_length bs)
+    step b bs = go (eqb b line_feed)
+      where
+        go : (t : Bool) → (if t then 0 else suc (line_length bs)) ≡ cond t 0 (1 + line_length bs)
+        go true = refl
+        go false = omega arith
+
+first_found : (bs : List ℕ) (r : Option ℕ) → r ≡ position (λ (b : ℕ). eqb b line_feed) bs → unwrap_or r (length bs) ≡ line_length bs
+first_found bs r e = rw e (go (nat_lt (position_or_len (λ (b : ℕ). eqb b line_feed) bs) (length bs)) refl)
+  where
+    go : (t : Bool) → nat_lt (position_or_len (λ (b : ℕ). eqb b line_feed) bs) (length bs) ≡ t
+        → unwrap_or (cond t (Some (position_or_len (λ (b : ℕ). eqb b line_feed) bs)) None) (length bs) ≡ line_length bs
+    go true q = sym (line_is bs)
+    go false q = omega (arith, line_is bs, length_within bs, ltb-false (position_or_len (λ (b : ℕ). eqb b line_feed) bs) (length bs) q)
+
+-- the line that starts at the place from
+pub end_found : (s : List ℕ) (from : ℕ) (r : Option ℕ) (n : ℕ) → r ≡ position (λ (b : ℕ). eqb b line_feed) (take (length s - from) (drop from s))
+    → n ≡ unwrap_or r (length (take (length s - from) (drop from s))) → from + n ≡ from + line_length (drop from s)
+end_found s from r n e f = ap (λ (k : ℕ). from + k) ((rw take_rest at f) ∙ first_found (drop from s) r (rw take_rest at e))
 
 pub end_within : (s : List ℕ) (from r : ℕ) → from ≤ length s → r ≡ from + line_length (drop from s) → r ≤ length s
 end_within s from r h e = omega (arith, rw length-drop at (length_within (drop from s)))

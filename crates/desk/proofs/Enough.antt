@@ -1,5 +1,5 @@
 -- Of a long input the first 97 lines of 2,049 bytes are enough: each good line takes a place of the tables, which have 96, and a longer line is bad.
-use Rattle.std.specs.Prelude.{if◌then◌else◌}
+use Rattle.std.specs.Prelude.{if◌then◌else◌, Option, Some, None}
 use mathlib.Core.Bool.{Bool, true, false, ◌&&◌}
 use mathlib.Core.Path.{◌≡◌, refl, sym, ◌∙◌}
 use mathlib.Core.List.{List, [], ◌∷◌}
@@ -91,16 +91,16 @@ module _ (n : ℕ) (tables : Tables) (e : length tables.guest ≡ 4) where
       drew (t && u) (with_last tables g)
       (λ h. (length-set tables.guest (tables.guests - 1) g ∙ e, last_less tables g e (sym p ∙ and_left t u h) (f (and_right t u h))))
 
-  drawn_less : (line : PlanLine) → Goes (drawn n tables line)
+  drawn_less : (line : Option PlanLine) → Goes (drawn n tables line)
   unfolding drawn
-  drawn_less PlanLine.Bad = inl (bad_ended n tables)
-  drawn_less (PlanLine.Guest cpus) =
+  drawn_less None = inl (bad_ended n tables)
+  drawn_less (Some (PlanLine.Guest cpus)) =
       drew (ltb tables.guests 4) _
       (λ h. (length-set tables.guest tables.guests _ ∙ e, guest_less tables _ (ltb-true tables.guests 4 h)))
-  drawn_less (PlanLine.Extent x) =
+  drawn_less (Some (PlanLine.Extent x)) =
       drew_last (some_guest tables) (ltb (last_guest tables).extents.extents 7) _ refl
       (λ h. omega (arith, ltb-true (last_guest tables).extents.extents 7 h))
-  drawn_less (PlanLine.Source s) =
+  drawn_less (Some (PlanLine.Source s)) =
       drew_last (some_guest tables) (ltb (last_guest tables).plant.sources 16) _ refl
       (λ h. omega (arith, ltb-true (last_guest tables).plant.sources 16 h))
 

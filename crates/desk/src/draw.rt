@@ -38,8 +38,9 @@ fn new_guest(cpus: u8) -> Guest
     }
 }
 
+#[tactic(auto, unfolding(rules::specs::Plan::drawn))]
 fn add_guest(n: usize, tables: Tables, cpus: u8) -> Desk
-    ensures { result ≡ drawn n tables (PlanLine.Guest cpus) }
+    ensures { result ≡ drawn n tables (Some (PlanLine.Guest cpus)) }
 {
     let i = tables.guests as usize;
     if GUESTS <= i {
@@ -66,7 +67,7 @@ fn more_extents(extents: Extents, x: Extent) -> Extents
     next
 }
 
-// A source more, behind those that are there.
+// A source more, behind those that are there. As more_extents, in a record of other fields: a trait over both would only name them.
 fn more_sources(plant: Plant, s: Source) -> Plant
     requires { plant.sources < source_limit }
     ensures { result ≡ more_sources plant s }
@@ -82,15 +83,14 @@ fn more_sources(plant: Plant, s: Source) -> Plant
 fn some_guest(guests: u8) -> bool
     ensures { result ≡ (guests is_from 1 to guest_limit) }
 {
-    (1 <= guests) & (guests <= GUESTS as u8)
+    1 <= guests && guests <= GUESTS as u8
 }
 
 fn last_guest(tables: Tables) -> Guest
     requires { some_guest tables ≡ true }
     ensures { result ≡ last_guest tables }
 {
-    let i = (tables.guests - 1) as usize;
-    tables.guest[i]
+    tables.guest[(tables.guests - 1) as usize]
 }
 
 // The tables with another last guest.
@@ -107,52 +107,51 @@ fn with_last(tables: Tables, guest: Guest) -> Desk
     }
 }
 
+#[tactic(auto, unfolding(rules::specs::Plan::drawn))]
 fn add_extent(n: usize, tables: Tables, x: Extent) -> Desk
-    ensures { result ≡ drawn n tables (PlanLine.Extent x) }
+    ensures { result ≡ drawn n tables (Some (PlanLine.Extent x)) }
 {
     if !some_guest(tables.guests) {
         return bad_at(n, tables);
     }
     let last = last_guest(tables);
-    let extents = last.extents;
-    if EXTENTS <= extents.extents as usize {
+    if EXTENTS <= last.extents.extents as usize {
         return bad_at(n, tables);
     }
-    let plant = last.plant;
     let guest = Guest {
-        extents: more_extents(extents, x),
-        plant,
+        extents: more_extents(last.extents, x),
+        plant: last.plant,
     };
     with_last(tables, guest)
 }
 
+#[tactic(auto, unfolding(rules::specs::Plan::drawn))]
 fn add_source(n: usize, tables: Tables, s: Source) -> Desk
-    ensures { result ≡ drawn n tables (PlanLine.Source s) }
+    ensures { result ≡ drawn n tables (Some (PlanLine.Source s)) }
 {
     if !some_guest(tables.guests) {
         return bad_at(n, tables);
     }
     let last = last_guest(tables);
-    let plant = last.plant;
-    if SOURCES <= plant.sources as usize {
+    if SOURCES <= last.plant.sources as usize {
         return bad_at(n, tables);
     }
-    let extents = last.extents;
     let guest = Guest {
-        extents,
-        plant: more_sources(plant, s),
+        extents: last.extents,
+        plant: more_sources(last.plant, s),
     };
     with_last(tables, guest)
 }
 
 // What line n makes of the tables.
-pub(crate) fn draw(n: usize, tables: Tables, line: PlanLine) -> Desk
+#[tactic(auto, unfolding(rules::specs::Plan::drawn))]
+pub(crate) fn draw(n: usize, tables: Tables, line: Option<PlanLine>) -> Desk
     ensures { result ≡ drawn n tables line }
 {
     match line {
-        PlanLine::Bad => bad_at(n, tables),
-        PlanLine::Guest(cpus) => add_guest(n, tables, cpus),
-        PlanLine::Extent(x) => add_extent(n, tables, x),
-        PlanLine::Source(s) => add_source(n, tables, s),
+        None => bad_at(n, tables),
+        Some(PlanLine::Guest(cpus)) => add_guest(n, tables, cpus),
+        Some(PlanLine::Extent(x)) => add_extent(n, tables, x),
+        Some(PlanLine::Source(s)) => add_source(n, tables, s),
     }
 }

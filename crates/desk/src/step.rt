@@ -15,11 +15,9 @@ fn load_line(line: &[u8]) -> Desk
     ensures { result ≡ loaded_desk (load (image_of (parse line.now))) }
 {
     let loaded = session::load_line(line);
-    let answer = loaded.answer;
-    let tables = loaded.tables;
     Desk {
-        stage: Stage::Loaded(answer),
-        tables,
+        stage: Stage::Loaded(loaded.answer),
+        tables: loaded.tables,
     }
 }
 
@@ -29,21 +27,19 @@ fn begin(n: usize, tables: Tables, line: &[u8]) -> Desk
 {
     match text::parse_line(line) {
         Line::Image => load_line(line),
-        Line::Bad => draw(n, tables, plan_line(line)),
-        Line::Event(_) => draw(n, tables, plan_line(line)),
+        Line::Bad | Line::Event(_) => draw(n, tables, plan_line(line)),
     }
 }
 
 // Line n.
+#[tactic(auto, unfolding(rules::specs::Plan::stepped))]
 pub(crate) fn step(n: usize, desk: Desk, line: &[u8]) -> Desk
     ensures { result ≡ stepped n desk line.now }
 {
-    let stage = desk.stage;
-    let tables = desk.tables;
-    match stage {
-        Stage::Fresh => begin(n, tables, line),
-        Stage::Drawing => draw(n, tables, plan_line(line)),
-        Stage::Loaded(_) => bad_at(n, tables),
-        Stage::Bad(k) => bad_at(k, tables),
+    match desk.stage {
+        Stage::Fresh => begin(n, desk.tables, line),
+        Stage::Drawing => draw(n, desk.tables, plan_line(line)),
+        Stage::Loaded(_) => bad_at(n, desk.tables),
+        Stage::Bad(k) => bad_at(k, desk.tables),
     }
 }

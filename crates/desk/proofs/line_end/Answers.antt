@@ -1,13 +1,6 @@
--- `line_end` meets its contract. The invariant: what is left of the line from i on ends where the line does.
-use Rattle.desk.proofs.EndLaws.{end_found, end_next, end_last}
-use native.Mathlib.Omega.{arith}
+-- `line_end` meets its contract: the first line feed from the place on, or the end of the input.
+use Rattle.desk.proofs.EndLaws.{end_found}
 use Rattle.desk.proofs.line_end.Goals as goal
 
-pub returns-then-input-i-eq10 : goal.returns-then-input-i-eq10
-returns-then-input-i-eq10 c = search end_found
-
-pub loop-i-preserved : goal.loop-i-preserved
-loop-i-preserved c = (omega arith, search end_next)
-
 pub returns : goal.returns
-returns c = search end_last
+returns c = end_found _ _ _ _ c.first_feed.ensures c.unwrap_or.ensures
