@@ -30,7 +30,7 @@ pub plant_after-requires : goal.plant_after-requires
 plant_after-requires c = guest_cpus _ _ _ c.door_of-door.ensures _ _ c.in-Ok.ensures
 
 pub with_plant-requires : goal.with_plant-requires
-with_plant-requires c = guest_below _ _ _ c.door_of-door.ensures _ _ c.in-Ok.ensures
+with_plant-requires c = omega (arith, guest_below _ _ _ c.door_of-door.ensures _ _ c.in-Ok.ensures)
 
 pub returns-in-Err : goal.returns-in-Err
 returns-in-Err c = settles_refused _ _ _ c.door_of-door.ensures _ _ _ c.in-Err.ensures c.refused.ensures
