@@ -5,7 +5,7 @@ ghost use Rattle.text.specs.Pieces.{behind};
 ghost use Rattle.text.specs.Gathered.{ZeroFrom};
 ghost use Rattle.text.specs.Lines.{told};
 
-use crate::fields::{FIELDS, read_fields};
+use crate::fields::{FIELDS, Fields, read_fields};
 use crate::line::Line;
 use rules::{Call, Device, Event, HeadWrite, LoadAt, StoreAt, TsbHit};
 
@@ -77,13 +77,14 @@ fn hit_of(ns: [u64; FIELDS]) -> TsbHit
     }
 }
 
-// The event of n numbers. Only a call may have fewer than its type has: those that are missing are 0.
+// The event of a word and its fields. Only a call may have fewer than its type has: those that are missing are 0.
 #[tactic(auto, using(crate::proofs::EventLaws::named))]
-fn event_of(word: &[u8], n: usize, ns: [u64; FIELDS]) -> Line
-    requires { (n ≤ length ns) × ZeroFrom n ns }
-    ensures { result ≡ told (event_line word.now (take n ns)) }
+fn event_of(word: &[u8], fields: Fields) -> Line
+    requires { (fields.numbers ≤ length fields.number) × ZeroFrom fields.numbers fields.number }
+    ensures { result ≡ told (event_line word.now (take fields.numbers fields.number)) }
 {
-    match (word, n) {
+    let ns = fields.number;
+    match (word, fields.numbers) {
         (b"call", 4..=9) => Line::Event(Event::Call(call_of(ns))),
         (b"head", 4) => Line::Event(Event::Head(head_of(ns))),
         (b"raise", 2) => Line::Event(Event::Raise(device_of(ns))),
@@ -101,6 +102,6 @@ pub(crate) fn event_line(s: &[u8], end: usize) -> Line
 {
     match read_fields(s, end) {
         None => Line::Bad,
-        Some(fields) => event_of(&s[..end], fields.numbers, fields.number),
+        Some(fields) => event_of(&s[..end], fields),
     }
 }
