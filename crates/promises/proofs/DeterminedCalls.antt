@@ -89,7 +89,7 @@ pub plant_after_determined : (κs : _) (a : _) (r s : _) (ws vs : _) → plant-a
 plant_after_determined κs a r s ws vs p q = p ∙ sym q
 
 pub put_entry_determined : (κs : _) (a : _) (r s : _) (ws vs : _) → put-entry-reads.Post κs a r ws → put-entry-reads.Post κs a s vs → (r ≡ s) × (ws.1.1.0.now ≡ vs.1.1.0.now)
-put_entry_determined κs a r s ws vs p q = ((λ i. record { held = (p.held ∙ sym q.held) i; room = (p.room ∙ sym q.room) i }), p.memory ∙ sym q.memory)
+put_entry_determined κs a r s ws vs p q = (p.held ∙ sym q.held, p.memory ∙ sym q.memory)
 
 -- versions: set version and get version
 pub set_version_determined : (κs : _) (a : _) (r s : _) (ws vs : _) → set-version-reads.Post κs a r ws → set-version-reads.Post κs a s vs → Same a.0 r s

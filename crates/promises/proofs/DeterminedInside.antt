@@ -48,11 +48,11 @@ field_at_determined κs a r s ws vs p q = p ∙ sym q
 pub range_valid_determined : (κs : _) (a : _) (r s : _) (ws vs : _) → range-valid-reads.Post κs a r ws → range-valid-reads.Post κs a s vs → r ≡ s
 range_valid_determined κs a r s ws vs p q = p ∙ sym q
 
-pub bytes_determined : (κs : _) (a : _) (r s : _) (ws vs : _) → bytes-reads.Post κs a r ws → bytes-reads.Post κs a s vs → r ≡ s
-bytes_determined κs a r s ws vs p q = p ∙ sym q
+pub bytes_determined : (g k κs : _) (a : _) (r s : _) (ws vs : _) → bytes-reads.Post g k κs a r ws → bytes-reads.Post g k κs a s vs → r ≡ s
+bytes_determined g k κs a r s ws vs p q = p ∙ sym q
 
-pub number_determined : (κs : _) (a : _) (r s : _) (ws vs : _) → number-reads.Post κs a r ws → number-reads.Post κs a s vs → r ≡ s
-number_determined κs a r s ws vs p q = p.0 ∙ sym q.0
+pub number_determined : (g k κs : _) (a : _) (r s : _) (ws vs : _) → number-reads.Post g k κs a r ws → number-reads.Post g k κs a s vs → r ≡ s
+number_determined g k κs a r s ws vs p q = p.0 ∙ sym q.0
 
 pub word_bytes_determined : (κs : _) (a : _) (r s : _) (ws vs : _) → word-bytes-reads.Post κs a r ws → word-bytes-reads.Post κs a s vs → r ≡ s
 word_bytes_determined κs a r s ws vs p q = p ∙ sym q
