@@ -1,30 +1,28 @@
 // Each line, its answer, and what the answer means.
-ghost use Rattle.std.specs.Prelude.{◌≡◌, true, [], ◌∷◌, ◌≤◌, ◌<◌, length};
+ghost use Rattle.std.specs.Prelude.{◌≡◌, [], ◌∷◌, ◌<◌, ◌≤◌, length, slice_index, IfOk, IfSome};
 ghost use Rattle.rules.specs.Text.{line_feed};
 ghost use Rattle.session.specs.Feeding.{AllFed};
 
-use crate::plain::{Went, answer_piece, write_text};
+use crate::plain::Plain;
+use crate::style::{Style, Unwritten, write_text};
 use reasons::ROOM;
-use session::Feeder;
+use session::{Feeder, LINE};
 use std::io::Write;
 use stream::Streams;
 
 // A byte that would do something to a terminal, or nothing that can be seen, stands as a question mark.
 fn shown(b: u8) -> u8 {
-    if (0x20 <= b) & (b <= 0x7e) { b } else { b'?' }
+    if matches!(b, b' '..=b'~') { b } else { b'?' }
 }
 
 // Puts the line as it is shown to the front of out, as much of it as has room, and gives the number of its bytes.
 fn show(line: &[u8], out: &mut [u8]) -> usize
     ensures { result ≤ length out.new }
 {
-    let n = memory::least(line.len(), out.len());
-    let mut i = 0;
-    while i < n {
-        out[i] = shown(line[i]);
-        i += 1;
+    for (to, b) in out.iter_mut().zip(line) {
+        *to = shown(*b);
     }
-    n
+    line.len().min(out.len())
 }
 
 // An answer, and behind it what it means.
@@ -32,154 +30,95 @@ fn write_answer<R, W: Write, E: Print>(
     streams: &mut Streams<R, W, E>,
     line: &[u8],
     answer: &[u8],
-) -> bool {
+) -> Result<(), Unwritten> {
     let mut reason = [0u8; ROOM];
     let n = reasons::put_reason(line, answer, &mut reason);
-    if !write_text(streams, b"    ") {
-        return false;
-    }
-    if !write_text(streams, answer) {
-        return false;
-    }
-    if !write_text(streams, b"    ") {
-        return false;
-    }
+    write_text(streams, b"    ")?;
+    write_text(streams, answer)?;
+    write_text(streams, b"    ")?;
     write_text(streams, &reason[..n])
 }
 
-// Whether the line could be written.
 fn write_line<R, W: Write, E: Print>(
     streams: &mut Streams<R, W, E>,
     line: &[u8],
     out: &mut [u8],
-) -> bool {
+) -> Result<(), Unwritten> {
     let n = show(line, out);
-    if !write_text(streams, &out[..n]) {
-        return false;
-    }
+    write_text(streams, &out[..n])?;
     write_text(streams, b"\n")
 }
 
-// The end of a line that the feeder holds: the line is written before it is carried out.
-fn explain_end_of<R, W: Write, E: Print>(
-    streams: &mut Streams<R, W, E>,
-    line: &[u8],
-    feeder: Feeder,
-    mem: &mut [u8],
-    out: &mut [u8],
-) -> Went
-    requires { 96 ≤ length out.old }
-    ensures { result.on ≡ true → AllFed feeder mem.old (line_feed ∷ []) result.feeder mem.new }
-{
-    if !write_line(streams, line, out) {
-        return Went { feeder, on: false };
-    }
-    let fed = session::feed(feeder, mem, b"\n", out);
-    let after = fed.feeder;
-    let written = fed.written;
-    let on = write_answer(streams, line, &out[..written]);
-    Went { feeder: after, on }
-}
-
-// The line is the first held bytes that the feeder keeps.
-fn explain_held<R, W: Write, E: Print>(
-    streams: &mut Streams<R, W, E>,
-    line: &[u8],
-    held: usize,
-    feeder: Feeder,
-    mem: &mut [u8],
-    out: &mut [u8],
-) -> Went
-    requires { 96 ≤ length out.old }
-    ensures { result.on ≡ true → AllFed feeder mem.old (line_feed ∷ []) result.feeder mem.new }
-{
-    let n = memory::least(held, line.len());
-    explain_end_of(streams, &line[..n], feeder, mem, out)
-}
-
+// The end of a line, which is what the feeder holds: the line is written before it is carried out.
 fn explain_line<R, W: Write, E: Print>(
     streams: &mut Streams<R, W, E>,
     feeder: Feeder,
     mem: &mut [u8],
     out: &mut [u8],
-) -> Went
+) -> Result<Feeder, Unwritten>
     requires { 96 ≤ length out.old }
-    ensures { result.on ≡ true → AllFed feeder mem.old (line_feed ∷ []) result.feeder mem.new }
+    ensures { IfOk result (λ after. AllFed feeder mem.old (line_feed ∷ []) after mem.new) }
 {
-    let line = feeder.line;
-    explain_held(streams, &line, feeder.held, feeder, mem, out)
+    let line = &feeder.line[..feeder.held.min(LINE)];
+    write_line(streams, line, out)?;
+    let fed = session::feed(feeder, mem, b"\n", out);
+    write_answer(streams, line, &out[..fed.written])?;
+    Ok(fed.feeder)
 }
 
-// The next line feed from the place from on, or the end of the piece.
-fn line_end(piece: &[u8], from: usize) -> usize
-    requires { from ≤ length piece.now }
-    ensures { (from ≤ result) × (result ≤ length piece.now) }
+// Where the first line of a piece ends.
+fn line_end(piece: &[u8]) -> Option<usize>
+    ensures { IfSome result (λ n. (n < length piece.now) × (slice_index piece.now n ≡ line_feed)) }
 {
-    let mut i = from;
-    while i < piece.len() {
-        if piece[i] == b'\n' {
-            return i;
-        }
-        i += 1;
-    }
-    i
+    piece.iter().position(|b| *b == b'\n')
 }
 
-// As answer_piece: no byte is lost.
-pub(crate) fn explain_piece<R, W: Write, E: Print>(
+// Line by line: what stands before a line's end, as plain input, and then the end.
+fn explain_piece<R, W: Write, E: Print>(
     streams: &mut Streams<R, W, E>,
     feeder: Feeder,
     mem: &mut [u8],
     piece: &[u8],
     out: &mut [u8],
-) -> Went
+) -> Result<Feeder, Unwritten>
     requires { 96 ≤ length out.old }
-    ensures { result.on ≡ true → AllFed feeder mem.old piece.now result.feeder mem.new }
+    ensures { IfOk result (λ after. AllFed feeder mem.old piece.now after mem.new) }
 {
     let mut left = feeder;
-    let mut from = 0;
-    while from < piece.len() {
-        if piece[from] == b'\n' {
-            let went = explain_line(streams, left, mem, out);
-            let after = went.feeder;
-            left = after;
-            from += 1;
-            if !went.on {
-                return Went {
-                    feeder: left,
-                    on: false,
-                };
-            }
-            continue;
-        }
-        let end = line_end(piece, from + 1);
-        let went = answer_piece(streams, left, mem, &piece[from..end], out);
-        let after = went.feeder;
-        left = after;
-        from = end;
-        if !went.on {
-            return Went {
-                feeder: left,
-                on: false,
-            };
-        }
+    let mut rest = piece;
+    while let Some(n) = line_end(rest) {
+        left = Plain.answer_piece(streams, left, mem, &rest[..n], out)?;
+        left = explain_line(streams, left, mem, out)?;
+        rest = &rest[n + 1..];
     }
-    Went {
-        feeder: left,
-        on: true,
-    }
+    Plain.answer_piece(streams, left, mem, rest, out)
 }
 
-// The end of the input answers a last line that has no line feed.
-pub(crate) fn explain_end<R, W: Write, E: Print>(
-    streams: &mut Streams<R, W, E>,
-    feeder: Feeder,
-    mem: &mut [u8],
-    out: &mut [u8],
-)
-    requires { 96 ≤ length out.old }
-{
-    if feeder.held != 0 {
-        explain_line(streams, feeder, mem, out);
+#[derive(Drop)]
+pub(crate) struct Explained;
+
+impl Style for Explained {
+    fn answer_piece<R, W: Write, E: Print>(
+        &self,
+        streams: &mut Streams<R, W, E>,
+        feeder: Feeder,
+        mem: &mut [u8],
+        piece: &[u8],
+        out: &mut [u8],
+    ) -> Result<Feeder, Unwritten> {
+        explain_piece(streams, feeder, mem, piece, out)
+    }
+
+    fn answer_end<R, W: Write, E: Print>(
+        &self,
+        streams: &mut Streams<R, W, E>,
+        feeder: Feeder,
+        mem: &mut [u8],
+        out: &mut [u8],
+    ) -> Result<(), Unwritten> {
+        if feeder.held != 0 {
+            explain_line(streams, feeder, mem, out)?;
+        }
+        Ok(())
     }
 }

@@ -1,7 +1,7 @@
 -- What is left of the piece comes, from where the session stands, to what the whole comes to.
 use Rattle.std.proofs.Common.{length, drop, ◌-◌, ◌≡◌, ◌≤◌}
 use Rattle.session.specs.Feeding.{unprinted, fed, taken_up}
-use Rattle.console.proofs.plain.answer_piece.Given as goal
+use Rattle.console.proofs.plain.PlainStyle.answer_piece.Given as goal
 
 abbrev pub invariant-loop-from : goal.invariant-loop-from
 invariant-loop-from g l =

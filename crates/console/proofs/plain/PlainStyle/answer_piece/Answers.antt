@@ -2,7 +2,7 @@
 use Rattle.session.proofs.Fits.{written_fits, written_taken}
 use Rattle.session.proofs.InParts.{more_fed, more_within, more_taken, none_left}
 use Rattle.std.proofs.Common.{rules, arith}
-use Rattle.console.proofs.plain.answer_piece.Goals as goal
+use Rattle.console.proofs.plain.PlainStyle.answer_piece.Goals as goal
 
 pub overflow_add-from : goal.overflow_add-from
 overflow_add-from g c =
@@ -30,4 +30,4 @@ loop-from-preserved g c =
     )
 
 pub returns : goal.returns
-returns g c = λ e. none_left _ _ _ _ _ c.loop-from.from (search rules) c.loop-from.invariant.2
+returns g c = none_left _ _ _ _ _ c.loop-from.from (search rules) c.loop-from.invariant.2
