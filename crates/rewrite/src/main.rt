@@ -4,7 +4,7 @@
 
 ghost use Rattle.std.specs.Prelude.{◌≡◌, ◌+◌, ◌*◌, ◌≤◌, length};
 
-use rules::{Loading, Tables, Writing};
+use rules::Tables;
 use std::io::Write;
 use stream::{Got, Streams};
 use text::Line;
@@ -19,30 +19,18 @@ const ANSWERS: usize = 65536;
 
 const ANSWER: usize = 4096;
 
+// What a write that fails is told as.
+const OUTPUT: &[u8] = b"rewrite: standard output";
+
 // Each byte as two digits, from the place `from` on.
 fn put_pairs(bytes: &[u8], from: usize, out: &mut [u8])
     requires { from + 2 * length bytes.now ≤ length out.old }
     ensures { length out.new ≡ length out.old }
 {
-    let mut i = 0;
-    while i < bytes.len() {
-        let b = bytes[i];
-        out[from + 2 * i] = text::digit_byte(b / 16);
-        out[from + 2 * i + 1] = text::digit_byte(b % 16);
-        i += 1;
+    for (i, b) in bytes.iter().enumerate() {
+        out[from + 2 * i] = text::digit_byte(*b / 16);
+        out[from + 2 * i + 1] = text::digit_byte(*b % 16);
     }
-}
-
-fn put_word(at: usize, out: &mut [u8])
-    requires { at + 6 ≤ length out.old }
-    ensures { length out.new ≡ length out.old }
-{
-    out[at] = b'i';
-    out[at + 1] = b'm';
-    out[at + 2] = b'a';
-    out[at + 3] = b'g';
-    out[at + 4] = b'e';
-    out[at + 5] = b' ';
 }
 
 // An image line from the place at on; gives the place behind it.
@@ -50,7 +38,7 @@ fn put_image(bytes: &[u8], at: usize, out: &mut [u8]) -> usize
     requires { at + (2 * length bytes.now + 7) ≤ length out.old }
     ensures { (result ≡ at + (2 * length bytes.now + 7)) × (length out.new ≡ length out.old) }
 {
-    put_word(at, out);
+    out[at..at + 6].copy_from_slice(b"image ");
     put_pairs(bytes, at + 6, out);
     let end = at + 6 + 2 * bytes.len();
     out[end] = b'\n';
@@ -62,15 +50,10 @@ fn put_written(tables: Tables, at: usize, out: &mut [u8]) -> usize
     ensures { (result ≤ length out.new) × (length out.new ≡ length out.old) }
 {
     let mut image = [0u8; 1024];
-    let written = writer::write_image(tables, &mut image);
-    match written {
-        Writing::Written(n) => {
-            if 1024 < n {
-                return at;
-            }
-            put_image(&image[..n], at, out)
-        }
-        Writing::Refused(_) => at,
+    match writer::write_image(tables, &mut image) {
+        // No more is written than there is room for: the test is for the slice's sake.
+        Ok(n) if n <= 1024 => put_image(&image[..n], at, out),
+        _ => at,
     }
 }
 
@@ -79,11 +62,9 @@ fn put_image_line(line: &[u8], at: usize, out: &mut [u8]) -> usize
     ensures { (result ≤ length out.new) × (length out.new ≡ length out.old) }
 {
     let loaded = session::load_line(line);
-    let answer = loaded.answer;
-    let tables = loaded.tables;
-    match answer {
-        Loading::Accepted => put_written(tables, at, out),
-        Loading::Refused(_) => text::put_loading(answer, at, out),
+    match loaded.answer {
+        Ok(()) => put_written(loaded.tables, at, out),
+        Err(_) => text::put_loading(loaded.answer, at, out),
     }
 }
 
@@ -93,13 +74,8 @@ fn put_line(line: &[u8], at: usize, out: &mut [u8]) -> usize
 {
     match text::parse_line(line) {
         Line::Image => put_image_line(line, at, out),
-        Line::Bad => text::put_bad(at, out),
-        Line::Event(_) => text::put_bad(at, out),
+        Line::Bad | Line::Event(_) => text::put_bad(at, out),
     }
-}
-
-fn write_text<R, W: Write, E: Print>(streams: &mut Streams<R, W, E>, text: &[u8]) {
-    stream::write_all(streams, text, b"rewrite: standard output");
 }
 
 // Where there is no room for one more answer, writes those that there are; gives the place for the next.
@@ -108,7 +84,7 @@ fn with_room<R, W: Write, E: Print>(streams: &mut Streams<R, W, E>, at: usize, o
     ensures { result + 4096 ≤ length out.now }
 {
     if out.len() - at < ANSWER {
-        write_text(streams, &out[..at]);
+        stream::write_all(streams, &out[..at], OUTPUT);
         return 0;
     }
     at
@@ -125,15 +101,12 @@ fn answer_piece<R, W: Write, E: Print>(
     requires { 4096 ≤ length out.old }
     ensures { length out.new ≡ length out.old }
 {
-    let mut held = memory::least(before, line.len());
+    let mut held = before.min(line.len());
     let mut at = 0;
-    let mut i = 0;
-    while i < piece.len() {
-        let b = piece[i];
-        i += 1;
-        if b != b'\n' {
+    for b in piece {
+        if *b != b'\n' {
             if held < line.len() {
-                line[held] = b;
+                line[held] = *b;
                 held += 1;
             }
             continue;
@@ -142,14 +115,8 @@ fn answer_piece<R, W: Write, E: Print>(
         at = put_line(&line[..held], at, out);
         held = 0;
     }
-    write_text(streams, &out[..at]);
+    stream::write_all(streams, &out[..at], OUTPUT);
     held
-}
-
-fn room() -> [u8; ANSWERS]
-    ensures { 65536 ≡ length result }
-{
-    [0; ANSWERS]
 }
 
 fn main(rt: HostRuntime) {
@@ -160,11 +127,10 @@ fn main(rt: HostRuntime) {
     };
     let mut input = [0u8; INPUT];
     let mut line = [0u8; LINE];
-    let mut out = room();
+    let mut out = [0u8; ANSWERS];
     let mut held = 0;
-    let mut turns = u64::MAX;
-    while turns > 0 {
-        turns -= 1;
+    // A proved loop has to end, and nothing says that the input does: this one has more turns than any run uses up.
+    for _ in 0..u64::MAX {
         match stream::read_some(&mut streams, &mut input, b"rewrite: standard input") {
             Got::Bytes(n) => held = answer_piece(
                 &mut streams,
@@ -174,8 +140,7 @@ fn main(rt: HostRuntime) {
                 &mut out,
             ),
             Got::Again => {}
-            Got::End => return,
-            Got::Failed => return,
+            Got::End | Got::Failed => return,
         }
     }
 }
