@@ -2,12 +2,10 @@
 // written there.
 #![tactic(auto)]
 
-mod bounds;
 mod extents;
 mod guest;
 mod runs;
 
-pub use bounds::{greatest, least};
 pub use extents::range_valid;
 pub use guest::{bytes, number, write_at, zero_at};
 pub use runs::{word_bytes, write};
