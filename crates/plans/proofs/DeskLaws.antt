@@ -1,5 +1,5 @@
 -- What is printed at each stage of the desk, and that tables which were loaded keep the rules.
-use Rattle.std.specs.Prelude.{if◌then◌else◌}
+use Rattle.std.specs.Prelude.{if◌then◌else◌, Option, Some, None, Ok, Err}
 use Prim.Native.Nat.{ℕ, suc, ◌≤◌}
 use mathlib.Core.Path.{◌≡◌, refl, sym, ◌∙◌}
 use mathlib.Core.Bool.{Bool, true, false, ◌&&◌}
@@ -11,12 +11,11 @@ use lib.Seq.{take-append_seam}
 use borrow.Author.Tests.{leb-true}
 use Rattle.rules.specs.declared.Desk.{Desk}
 use Rattle.rules.specs.declared.ImageRefusal.{ImageRefusal}
-use Rattle.rules.specs.declared.Loading.{Loading}
+use Rattle.rules.specs.Types.{Loading, Writing}
 use Rattle.rules.specs.declared.PlanLine.{PlanLine}
 use Rattle.rules.specs.declared.Stage.{Stage}
 use Rattle.rules.specs.declared.Tables.{Tables}
 use Rattle.rules.specs.declared.WriteRefusal.{WriteRefusal}
-use Rattle.rules.specs.declared.Writing.{Writing}
 use Rattle.rules.specs.Limits.{guest_limit, extent_limit, source_limit}
 use Rattle.rules.specs.Rulings.{RulingBy, refused, granted, ◌or_refuse◌then◌}
 use Rattle.rules.specs.Tables.{keep_rules}
@@ -43,57 +42,52 @@ granted_fits tables room bytes e =
 
 -- what writing into a buffer m that is o then answered
 module _ (tables : Tables) (m o : List ℕ) (w : Writing) (a : (w ≡ (write_image tables m).answer) × (o ≡ (write_image tables m).buffer)) where
-  pub written_fits : (n : ℕ) → w ≡ Writing.Written n → n ≤ length m
+  pub written_fits : (n : ℕ) → w ≡ Ok n → n ≤ length m
   unfolding write_image
   written_fits n e = go (write_rule tables (length m)) refl (sym a.0 ∙ e)
     where
-      go : (x : RulingBy WriteRefusal (List ℕ)) → write_rule tables (length m) ≡ x → (write_outcome m x).answer ≡ Writing.Written n → n ≤ length m
-      go (refused r) q f = let z : ◌≡◌ {A = ℕ} 0 1 = cc in absurd (omega arith)
+      go : (x : RulingBy WriteRefusal (List ℕ)) → write_rule tables (length m) ≡ x → (write_outcome m x).answer ≡ Ok n → n ≤ length m
+      go (refused r) q f = cc
       go (granted bytes) q f =
           let l : length bytes ≡ n = cc in
           omega (arith, granted_fits tables (length m) bytes q)
 
-  pub written_text_lem : (n : ℕ) → w ≡ Writing.Written n → written_text (write_rule tables (length m)) ≡ image_line (take n o)
+  pub written_text_lem : (n : ℕ) → w ≡ Ok n → written_text (write_rule tables (length m)) ≡ image_line (take n o)
   unfolding write_image
   written_text_lem n e = go (write_rule tables (length m)) (sym a.0 ∙ e) a.1
     where
-      go : (x : RulingBy WriteRefusal (List ℕ)) → (write_outcome m x).answer ≡ Writing.Written n → o ≡ (write_outcome m x).buffer → written_text x ≡ image_line (take n o)
-      go (refused r) f g = let z : ◌≡◌ {A = ℕ} 0 1 = cc in absurd (omega arith)
+      go : (x : RulingBy WriteRefusal (List ℕ)) → (write_outcome m x).answer ≡ Ok n → o ≡ (write_outcome m x).buffer → written_text x ≡ image_line (take n o)
+      go (refused r) f g = cc
       go (granted bytes) f g =
           let l : length bytes ≡ n = cc in
           rw (g, ← l, take-append_seam bytes (drop (length bytes) m))
 
-  pub refused_text : (r : WriteRefusal) → w ≡ Writing.Refused r → written_text (write_rule tables (length m)) ≡ numbers_text 1 (write_status r ∷ 0 ∷ 0 ∷ 0 ∷ 0 ∷ [])
+  pub refused_text : (r : WriteRefusal) → w ≡ Err r → written_text (write_rule tables (length m)) ≡ numbers_text 1 (write_status r ∷ 0 ∷ 0 ∷ 0 ∷ 0 ∷ [])
   unfolding write_image numbers_text
   refused_text r e = go (write_rule tables (length m)) (sym a.0 ∙ e)
     where
-      go : (x : RulingBy WriteRefusal (List ℕ)) → (write_outcome m x).answer ≡ Writing.Refused r → written_text x ≡ numbers_text 1 (write_status r ∷ 0 ∷ 0 ∷ 0 ∷ 0 ∷ [])
+      go : (x : RulingBy WriteRefusal (List ℕ)) → (write_outcome m x).answer ≡ Err r → written_text x ≡ numbers_text 1 (write_status r ∷ 0 ∷ 0 ∷ 0 ∷ 0 ∷ [])
       go (refused s) f = let l : s ≡ r = cc in rw l
-      go (granted bytes) f = let z : ◌≡◌ {A = ℕ} 0 1 = cc in absurd (omega arith)
-
--- what loading answered, where it refused
-pub unloaded_text : (tables : Tables) (a : Loading) (r : ImageRefusal) → a ≡ Loading.Refused r → loaded_text tables a ≡ loading_text a
-unfolding loading_text
-unloaded_text tables a r e = rw e
+      go (granted bytes) f = cc
 
 -- A desk whose tables are drawn, or whose line is bad, has loaded none.
 
 drawing_keeps : (tables : Tables) → LoadsKeep (drawing tables)
-drawing_keeps tables answer e = let z : ◌≡◌ {A = ℕ} 0 1 = cc in absurd (omega arith)
+drawing_keeps tables answer e = cc
 
 bad_keeps : (n : ℕ) (tables : Tables) → LoadsKeep (bad_at n tables)
-bad_keeps n tables answer e = let z : ◌≡◌ {A = ℕ} 0 1 = cc in absurd (omega arith)
+bad_keeps n tables answer e = cc
 
 either_keeps : (b : Bool) (n : ℕ) (more tables : Tables) → LoadsKeep (if b then drawing more else bad_at n tables)
 either_keeps true n more tables = drawing_keeps more
 either_keeps false n more tables = bad_keeps n tables
 
-drawn_keeps : (n : ℕ) (tables : Tables) (line : PlanLine) → LoadsKeep (drawn n tables line)
+drawn_keeps : (n : ℕ) (tables : Tables) (line : Option PlanLine) → LoadsKeep (drawn n tables line)
 unfolding drawn
-drawn_keeps n tables PlanLine.Bad = bad_keeps n tables
-drawn_keeps n tables (PlanLine.Guest cpus) = either_keeps (ltb tables.guests guest_limit) n _ tables
-drawn_keeps n tables (PlanLine.Extent x) = either_keeps (some_guest tables && ltb (last_guest tables).extents.extents extent_limit) n _ tables
-drawn_keeps n tables (PlanLine.Source s) = either_keeps (some_guest tables && ltb (last_guest tables).plant.sources source_limit) n _ tables
+drawn_keeps n tables None = bad_keeps n tables
+drawn_keeps n tables (Some (PlanLine.Guest cpus)) = either_keeps (ltb tables.guests guest_limit) n _ tables
+drawn_keeps n tables (Some (PlanLine.Extent x)) = either_keeps (some_guest tables && ltb (last_guest tables).extents.extents extent_limit) n _ tables
+drawn_keeps n tables (Some (PlanLine.Source s)) = either_keeps (some_guest tables && ltb (last_guest tables).plant.sources source_limit) n _ tables
 
 begun_keeps : (n : ℕ) (tables : Tables) (line : List ℕ) (l : Line) → LoadsKeep (begun n tables line l)
 begun_keeps n tables line (image bytes) = λ answer e. load_keeps bytes
@@ -113,4 +107,4 @@ steps_keep n desk (line ∷ lines) k = steps_keep (suc n) (stepped n desk line) 
 
 pub after_keeps : (input : List ℕ) → LoadsKeep (desk_after input)
 unfolding desk_after fresh
-after_keeps input = steps_keep 1 fresh (lines_from [] input) (λ answer e. let z : ◌≡◌ {A = ℕ} 0 1 = cc in absurd (omega arith))
+after_keeps input = steps_keep 1 fresh (lines_from [] input) (λ answer e. cc)

@@ -7,8 +7,8 @@ use native.Mathlib.Numerals.{add-one}
 use native.Mathlib.Omega.{arith}
 use lib.ListN.{length, length-append}
 use Rattle.rules.specs.Scan.{each_below}
-use Rattle.reasons.specs.Put.{Put}
-use Rattle.reasons.proofs.PutLaws.{put_behind}
+use Rattle.text.specs.Put.{Put}
+use Rattle.text.proofs.PutLaws.{put_behind}
 
 -- n texts of at most b bytes
 pub each_most : (f : ℕ → List ℕ) (b n : ℕ) → ((i : ℕ) → i < n → length (f i) ≤ b) → length (each_below n f) ≤ b * n

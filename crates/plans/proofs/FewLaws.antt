@@ -12,7 +12,7 @@ use Rattle.rules.specs.Tables.{keep_rules}
 use Rattle.rules.specs.Plan.{guest_lines}
 use Rattle.records.proofs.SoundLaws.{plant_sources}
 use Rattle.tables.proofs.SoundTables.{guests_few, extents_few, extents_keep_lem, plant_keeps_lem}
-use Rattle.reasons.specs.Put.{Put}
+use Rattle.text.specs.Put.{Put}
 use Rattle.plans.proofs.EachLaws.{each_place}
 use Rattle.plans.proofs.LineLaws.{guest_most}
 

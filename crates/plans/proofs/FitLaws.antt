@@ -1,5 +1,6 @@
 -- What is printed has at most 8,192 bytes.
 use Prim.Native.Nat.{ℕ, ◌<◌, ◌≤◌}
+use Rattle.std.proofs.Common.{Ok, Err}
 use mathlib.Core.Path.{◌≡◌, refl}
 use mathlib.Core.Bool.{true}
 use mathlib.Core.List.{List, [], ◌∷◌}
@@ -7,7 +8,7 @@ use native.Mathlib.Omega.{arith}
 use lib.ListN.{length, length-append}
 use lib.Seq.{sets, length-sets}
 use Rattle.rules.specs.declared.Desk.{Desk}
-use Rattle.rules.specs.declared.Loading.{Loading}
+use Rattle.rules.specs.Types.{Loading}
 use Rattle.rules.specs.declared.Stage.{Stage}
 use Rattle.rules.specs.declared.Tables.{Tables}
 use Rattle.rules.specs.declared.WriteRefusal.{WriteRefusal}
@@ -46,8 +47,8 @@ plan_fits tables keep =
 
 loaded_fits : (tables : Tables) (answer : Loading) → keep_rules tables ≡ true → length (loaded_text tables answer) ≤ 8192
 unfolding loading_text
-loaded_fits tables Loading.Accepted keep = plan_fits tables keep
-loaded_fits tables (Loading.Refused r) keep = omega (arith, loading_most (Loading.Refused r))
+loaded_fits tables (Ok u) keep = plan_fits tables keep
+loaded_fits tables (Err r) keep = omega (arith, loading_most (Err r))
 
 stage_fits : (tables : Tables) (stage : Stage) → ((answer : Loading) → stage ≡ Stage.Loaded answer → keep_rules tables ≡ true) → length (stage_text tables stage) ≤ 8192
 stage_fits tables Stage.Fresh k = written_fits tables (write_rule tables 1024) refl

@@ -1,7 +1,9 @@
 -- Laws of a word's line: a byte behind a text, numbers behind a word, and how long lines get.
 use Rattle.std.specs.Prelude.{if◌then◌else◌}
 use Prim.Native.Nat.{ℕ, suc, ◌+◌, ◌*◌, ◌<◌, ◌≤◌}
+use mathlib.Core.Bool.{Bool, true, false}
 use mathlib.Core.Path.{◌≡◌, refl}
+use mir.Val.{bool_byte}
 use mathlib.Core.List.{List, [], ◌∷◌, ◌++◌, append_assoc}
 use native.Mathlib.Omega.{arith}
 use lib.ListN.{length, take, set, length-append}
@@ -16,8 +18,8 @@ use Rattle.rules.specs.Text.{space}
 use Rattle.rules.specs.Plan.{word_guest, word_extent, source_word, word_line, extent_line, source_line, guest_lines}
 use Rattle.text.specs.Printed.{numbers_text}
 use Rattle.text.proofs.PrintLaws.{numbers_most}
-use Rattle.reasons.specs.Put.{Put}
-use Rattle.reasons.proofs.PutLaws.{put_behind}
+use Rattle.text.specs.Put.{Put}
+use Rattle.text.proofs.PutLaws.{put_behind}
 use Rattle.plans.proofs.EachLaws.{each_most}
 
 -- what has been written, over m from a place on
@@ -30,6 +32,11 @@ module _ (m o : List ℕ) (at r : ℕ) where
   unfolding word_line numbers_text
   numbers_behind word ns count w p s v =
       rw append_assoc at (put_behind (word ++ (space ∷ [])) (numbers_text count ns) m o p at r s w (record { behind = v.0; bytes = v.1 }))
+
+-- whether cookies are supported, as a number
+pub bit_of : (t : Bool) → bool_byte t ≡ (if t then 1 else 0)
+bit_of true = refl
+bit_of false = refl
 
 -- a line is as long as its word, and a space and 16 digits for each number
 pub line_most : (word ns : List ℕ) (j : ℕ) → j < length ns → length (word_line word (take (suc j) ns)) ≤ length word + 1 + 17 * suc j

@@ -9,8 +9,8 @@ use lib.Seq.{take-suc, take-length}
 use Rattle.rules.specs.Scan.{each_below}
 use Rattle.rules.specs.Text.{space, line_feed, word_image, digit_byte}
 use Rattle.rules.specs.Plan.{digit_pairs, image_line}
-use Rattle.reasons.specs.Put.{Put}
-use Rattle.reasons.proofs.PutLaws.{put_behind}
+use Rattle.text.specs.Put.{Put}
+use Rattle.text.proofs.PutLaws.{put_behind}
 use Rattle.plans.proofs.LineLaws.{put_byte}
 
 pub pair_put : (m : List ℕ) (at high low d e : ℕ) → d ≡ digit_byte high → e ≡ digit_byte low → Put m (set (set m at d) (at + 1) e) at (at + 2) (digit_byte high ∷ digit_byte low ∷ [])

@@ -1,7 +1,7 @@
 -- What printing asks of a desk.
 use Rattle.std.specs.Prelude.{◌≡◌, true}
 use Rattle.rules.specs.declared.Desk.{Desk}
-use Rattle.rules.specs.declared.Loading.{Loading}
+use Rattle.rules.specs.Types.{Loading}
 use Rattle.rules.specs.declared.Stage.{Stage}
 use Rattle.rules.specs.Tables.{keep_rules}
 

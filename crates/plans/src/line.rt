@@ -2,30 +2,17 @@
 ghost use Rattle.std.specs.Prelude.{[], ◌∷◌, ◌++◌, ◌+◌, ◌≤◌, length, take};
 ghost use Rattle.rules.specs.Text.{space};
 ghost use Rattle.rules.specs.Plan.{word_line};
-ghost use Rattle.reasons.specs.Put.{Put};
+ghost use Rattle.text.specs.Put.{Put};
 
 // As many bytes as the longest output takes, and more: 4 guests of 7 extents and 16 sources each take at most 5,428.
 pub const ROOM: usize = 8192;
-
-// Writes a word from the place at on, and gives the place behind it.
-pub(crate) fn put_word(word: &[u8], at: usize, out: &mut [u8; ROOM]) -> usize
-    requires { at + length word.now ≤ 8192 }
-    ensures { Put out.old out.new at result word.now }
-{
-    let mut i = 0;
-    while i < word.len() {
-        out[at + i] = word[i];
-        i += 1;
-    }
-    at + i
-}
 
 // A word and a space.
 pub(crate) fn put_first(word: &[u8], at: usize, out: &mut [u8; ROOM]) -> usize
     requires { at + length word.now + 1 ≤ 8192 }
     ensures { Put out.old out.new at result (word.now ++ (space ∷ [])) }
 {
-    let end = put_word(word, at, out);
+    let end = text::put_text(word, at, out);
     out[end] = b' ';
     end + 1
 }

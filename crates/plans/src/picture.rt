@@ -2,7 +2,7 @@
 ghost use Rattle.std.specs.Prelude.{[], ◌∷◌, ◌+◌, ◌*◌, ◌<◌, ◌≤◌, length};
 ghost use Rattle.rules.specs.Text.{digit_byte};
 ghost use Rattle.rules.specs.Plan.{digit_pairs, image_line};
-ghost use Rattle.reasons.specs.Put.{Put};
+ghost use Rattle.text.specs.Put.{Put};
 
 use crate::line::{ROOM, put_first};
 
@@ -22,11 +22,8 @@ fn put_pairs(bytes: &[u8], from: usize, out: &mut [u8; ROOM]) -> usize
     ensures { Put out.old out.new from result (digit_pairs bytes.now) }
 {
     let mut at = from;
-    let mut i = 0;
-    while i < bytes.len() {
-        let b = bytes[i];
-        at = put_pair(b / 16, b % 16, at, out);
-        i += 1;
+    for b in bytes {
+        at = put_pair(*b / 16, *b % 16, at, out);
     }
     at
 }

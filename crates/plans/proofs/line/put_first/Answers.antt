@@ -3,4 +3,4 @@ use Rattle.plans.proofs.LineLaws.{put_byte}
 use Rattle.plans.proofs.line.put_first.Goals as goal
 
 pub returns : goal.returns
-returns c = put_byte _ _ _ _ _ _ c.put_word-end.ensures
+returns c = put_byte _ _ _ _ _ _ c.put_text-end.ensures

@@ -1,7 +1,7 @@
 -- `plan::put_guest_lines` meets its contract: the guest's line, then those of its extents and of its sources.
 use Rattle.rules.specs.Plan.{guest_lines}
 use Rattle.plans.proofs.LineLaws.{cpus_most, extents_most}
-use Rattle.reasons.proofs.PutLaws.{put_behind}
+use Rattle.text.proofs.PutLaws.{put_behind}
 use native.Mathlib.Omega.{arith}
 use borrow.Author.Rules.{rules}
 use Rattle.plans.proofs.plan.put_guest_lines.Goals as goal

@@ -1,14 +1,9 @@
--- `plan::put_source_lines` meets its contract. The invariant: the lines of the first i sources stand there.
-use Prim.Native.Nat.{◌≤◌, ◌-◌}
-use lib.ListN.{get_or}
+-- `plan::put_source_lines` meets its contract. The invariant: the lines of the first sources stand there.
 use Rattle.rules.specs.Scan.{each_below}
-use Rattle.rules.specs.Kept.{blank_source}
+use Rattle.rules.specs.Kept.{source_at}
 use Rattle.rules.specs.Plan.{source_line}
-use Rattle.reasons.specs.Put.{Put}
+use Rattle.text.specs.Put.{Put}
 use Rattle.plans.proofs.plan.put_source_lines.Given as goal
 
-abbrev pub invariant-loop-i : goal.invariant-loop-i
-invariant-loop-i l = (l.i ≤ l.count) × Put l.initial.out l.out l.from l.at (each_below l.i (λ k. source_line (get_or l.source k blank_source)))
-
-abbrev pub decreases-loop-i : goal.decreases-loop-i
-decreases-loop-i l = l.count - l.i
+abbrev pub invariant-loop-s : goal.invariant-loop-s
+invariant-loop-s l = Put l.initial.out l.out l.from l.at (each_below l.s-index (λ k. source_line (source_at l.fn.plant k)))
