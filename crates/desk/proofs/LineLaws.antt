@@ -9,13 +9,10 @@ use native.Mathlib.Omega.{arith}
 use lib.Dec.{leb, ltb, eqb}
 use lib.ListN.{length, get_or, take, drop}
 use lib.Seq.{length-take-le}
-use borrow.Author.Tests.{ltb-true, leb-false, le-leb, lt-leb, ne_eqb}
-use Rattle.rules.specs.declared.Extent.{Extent}
-use Rattle.rules.specs.declared.Source.{Source}
+use borrow.Author.Tests.{leb-false, le-leb, lt-leb, ne_eqb}
 use Rattle.rules.specs.declared.PlanLine.{PlanLine}
 use Rattle.rules.specs.Text.{same, fields}
 use Rattle.rules.specs.Plan.{word_guest, word_extent, source_word, extent_of, extent_held, source_of, source_held, addition_of, addition_or, plan_line}
-use Rattle.rules.proofs.Tests.{and_left, and_right}
 use Rattle.text.specs.declared.fields.Fields.{Fields}
 use Rattle.text.specs.Pieces.{first_length, behind}
 use Rattle.text.specs.Gathered.{fields_of, fields_or, ZeroFrom}

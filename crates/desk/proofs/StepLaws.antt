@@ -4,17 +4,13 @@ use mathlib.Core.Path.{◌≡◌, sym, ap, ◌∙◌}
 use mathlib.Core.List.{List}
 use mathlib.Core.Logic.{◌⊎◌, ⊎_elim}
 use Prim.Native.Nat.{ℕ}
-use native.Mathlib.Omega.{arith}
 use Rattle.rules.specs.declared.Event.{Event}
-use Rattle.rules.specs.declared.Loaded.{Loaded}
-use Rattle.rules.specs.Types.{Loading}
 use Rattle.rules.specs.declared.PlanLine.{PlanLine}
-use Rattle.rules.specs.declared.Stage.{Stage}
 use Rattle.rules.specs.declared.Tables.{Tables}
 use Rattle.rules.specs.declared.Desk.{Desk}
 use Rattle.rules.specs.Image.{load}
 use Rattle.rules.specs.Text.{Line, bad, image, event, parse}
-use Rattle.rules.specs.Plan.{plan_line, drawn, bad_at, loaded_desk, begun, stepped}
+use Rattle.rules.specs.Plan.{plan_line, drawn, loaded_desk, begun}
 use Rattle.text.specs.declared.line.Line.{Line as Told}
 use Rattle.text.specs.Lines.{told, image_of}
 

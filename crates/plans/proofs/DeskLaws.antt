@@ -10,8 +10,7 @@ use lib.ListN.{length, take, drop}
 use lib.Seq.{take-append_seam}
 use borrow.Author.Tests.{leb-true}
 use Rattle.rules.specs.declared.Desk.{Desk}
-use Rattle.rules.specs.declared.ImageRefusal.{ImageRefusal}
-use Rattle.rules.specs.Types.{Loading, Writing}
+use Rattle.rules.specs.Types.{Writing}
 use Rattle.rules.specs.declared.PlanLine.{PlanLine}
 use Rattle.rules.specs.declared.Stage.{Stage}
 use Rattle.rules.specs.declared.Tables.{Tables}
@@ -23,8 +22,8 @@ use Rattle.rules.specs.Statuses.{write_status}
 use Rattle.rules.specs.Text.{Line, bad, image, event, parse}
 use Rattle.rules.specs.Session.{lines_from}
 use Rattle.rules.specs.Writing.{image_of, write_rule, write_outcome, write_image}
-use Rattle.rules.specs.Plan.{last_guest, some_guest, drawing, bad_at, drawn, plan_line, begun, stepped_by, stepped, steps, fresh, desk_after, image_line, written_text, loaded_text}
-use Rattle.text.specs.Printed.{numbers_text, loading_text}
+use Rattle.rules.specs.Plan.{last_guest, some_guest, drawing, bad_at, drawn, plan_line, begun, stepped_by, stepped, steps, fresh, desk_after, image_line, written_text}
+use Rattle.text.specs.Printed.{numbers_text}
 use Rattle.kept.proofs.Accepted.{then_tells, then_rest, granted_same, load_keeps}
 use Rattle.plans.specs.Loads.{LoadsKeep}
 

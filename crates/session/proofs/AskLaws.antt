@@ -1,22 +1,17 @@
 -- What a line asks for, at each return of the code.
-use Rattle.std.proofs.Common.{Ok, Err}
 use mathlib.Core.Path.{◌≡◌, refl, sym, ap, ◌∙◌}
 use mathlib.Core.List.{List}
 use Prim.Native.Nat.{ℕ, ◌≤◌}
 use native.Mathlib.Omega.{arith}
 use lib.ListN.{length, take}
 use lib.Seq.{sets, length-sets, length-take-le}
-use Rattle.rules.specs.declared.Answer.{Answer}
 use Rattle.rules.specs.declared.Event.{Event}
-use Rattle.rules.specs.declared.Refusal.{Refusal}
 use Rattle.rules.specs.declared.Loaded.{Loaded}
 use Rattle.rules.specs.declared.Reply.{Reply}
 use Rattle.rules.specs.declared.Tables.{Tables}
 use Rattle.rules.specs.Image.{load}
 use Rattle.rules.specs.Text.{Line, bad, image, event, parse}
 use Rattle.records.specs.Verdict.{Verdict}
-use Rattle.host.specs.Seats.{Seat}
-use Rattle.host.specs.Seats.{seat_of}
 use Rattle.text.specs.declared.line.Line.{Line as Told}
 use Rattle.text.specs.Lines.{told, image_of}
 use Rattle.text.proofs.SizeLaws.{image_few}

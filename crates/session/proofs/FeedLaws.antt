@@ -1,16 +1,16 @@
 -- The loop of `feed`: what its state comes to, byte by byte.
 use mathlib.Core.Path.{◌≡◌, refl, sym, ap, ◌∙◌}
-use mathlib.Core.Bool.{Bool, true, false, ◌&&◌, true≢false, false≢true}
+use mathlib.Core.Bool.{true}
 use mathlib.Core.List.{List, [], ◌∷◌, ◌++◌}
 use mathlib.Core.Logic.{◌⊎◌, inl, inr, ⊎_elim}
-use Prim.Native.Nat.{ℕ, zero, suc, ◌+◌, ◌-◌, ◌<◌, ◌≤◌, min}
+use Prim.Native.Nat.{ℕ, suc, ◌+◌, ◌-◌, ◌<◌, ◌≤◌, min}
 use native.Mathlib.Nat.{zero-add}
 use native.Mathlib.Numerals.{add-one}
 use native.Mathlib.Omega.{arith}
 use lib.ListN.{length, get_or, replicate, set, take, drop, length-append, length-set, drop_of_length-le}
-use lib.Dec.{ltb, leb}
+use lib.Dec.{leb}
 use lib.Seq.{sets, drop-cons, length-take-le, length-sets}
-use borrow.Author.Tests.{eq-eqb, ne_eqb, lt-ltb, le-ltb, ltb-true, ltb-false, leb-true, leb-false, le-leb, lt-leb}
+use borrow.Author.Tests.{eq-eqb, ne_eqb, lt-ltb, le-ltb, le-leb, lt-leb}
 use Rattle.rules.specs.declared.Loaded.{Loaded}
 use Rattle.rules.specs.declared.Tables.{Tables}
 use Rattle.rules.specs.declared.Reply.{Reply}
@@ -22,7 +22,7 @@ use Rattle.text.proofs.Stores.{sets_append}
 use Rattle.session.specs.declared.feeder.Fed.{Fed}
 use Rattle.session.specs.declared.feeder.Feeder.{Feeder}
 use Rattle.session.specs.Replies.{reply_text}
-use Rattle.session.specs.Feeding.{Progress, next, fed, takes, room, feed_of, line_limit, Feeds, ending, at_first}
+use Rattle.session.specs.Feeding.{Progress, next, fed, takes, room, feed_of, line_limit, Feeds, at_first}
 use Rattle.session.proofs.ReplyLaws.{reply_most}
 
 abbrev pub at : Tables → List ℕ → List ℕ → ℕ → List ℕ → Progress
