@@ -1,6 +1,5 @@
 -- What each change makes of a plant's record, where the place is there.
 use mathlib.Core.Path.{◌≡◌}
-use mathlib.Core.List.{List}
 use Prim.Native.Nat.{ℕ, ◌<◌}
 use borrow.Author.Tests.{lt-ltb}
 use Rattle.rules.specs.declared.Plant.{Plant}

@@ -1,4 +1,3 @@
-pub mod AfterLaws
 pub mod ChangeLaws
 pub mod JudgedLaws
 pub mod MapLaws

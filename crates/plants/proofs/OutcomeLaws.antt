@@ -2,7 +2,6 @@
 use mathlib.Core.Path.{◌≡◌, refl, ap}
 use mathlib.Core.List.{List}
 use Prim.Native.Nat.{ℕ, ◌<◌}
-use lib.ListN.{replicate}
 use Rattle.rules.specs.declared.Extents.{Extents}
 use Rattle.rules.specs.declared.Plant.{Plant}
 use Rattle.rules.specs.declared.QueueRecord.{QueueRecord}
@@ -12,7 +11,7 @@ use Rattle.rules.specs.declared.Answer.{Answer}
 use Rattle.rules.specs.declared.Versions.{Versions}
 use Rattle.rules.specs.declared.Answer.TheVariants.{Refused}
 use Rattle.rules.specs.Limits.{cpu_limit, queue_limit, source_limit}
-use Rattle.rules.specs.Kept.{blank_tsbs, with_versions, with_queue, with_statistics, with_source}
+use Rattle.rules.specs.Kept.{with_versions, with_queue, with_statistics, with_source}
 use Rattle.rules.specs.Real.{apply}
 use Rattle.rules.specs.Rulings.{Ruling, refused, Outcome, outcome_of, says}
 use Rattle.memory.specs.Ready.{present}
@@ -27,9 +26,6 @@ use Rattle.plants.proofs.ChangeLaws.{queue_after, statistics_after, source_after
 module _ (plant : Plant) (x : Ruling Outcome) where
   pub refuses : (r : Refusal) → x ≡ refused r → saying plant (Refused r) ≡ outcome_of plant x
   refuses r e = rw e
-
-  pub answers : (a : Answer) → x ≡ says a plant → saying plant a ≡ outcome_of plant x
-  answers a e = rw e
 
   -- d is what the code gives back
   module _ (d : Done) where
