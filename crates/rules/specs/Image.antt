@@ -1,6 +1,6 @@
 -- "The partition image": from bytes to tables. Nothing here speaks of memory.
 use Rattle.std.specs.Prelude.{Bool, ◌&&◌, ◌||◌, not, ℕ, zero, suc, ◌+◌, ◌-◌, ◌*◌, ◌/◌, ◌%◌, min, max, List, length, set, replicate, leb, ltb, eqb, Option, Ok, Err}
-use Rattle.rules.specs.Types.{Extent, Extents, Source, Guest, Tables, ImageRefusal, ImageShort, HeaderOrCount, ExtentNumbers, ExtentOrder, PagesShared, SourceTwice, FillOrBehind, Loading, Loaded}
+use Rattle.rules.specs.Types.{Extent, Extents, Source, Guest, Tables, ImageRefusal, ImageShort, HeaderOrCount, ExtentNumbers, ExtentOrder, PagesShared, SourceTwice, FillOrBehind, Loaded}
 use Rattle.rules.specs.Limits.{guest_limit, cpu_limit, extent_limit, source_limit, real_pages, host_pages}
 use Rattle.rules.specs.Scan.{some_below, all_below, ◌is_from◌to◌, first_below, is_found}
 use Rattle.rules.specs.Kept.{blank_extent, blank_cpu, blank_source, blank_guest, no_versions, no_guests, guest_at, plant_at, extent_at, source_at}
