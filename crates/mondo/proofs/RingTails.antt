@@ -3,12 +3,11 @@ use Rattle.std.proofs.Common.{Some, None}
 use Rattle.std.proofs.lemmas.List.{ext_get_or, length-map, get_or-map as get_or_mapped}
 use mathlib.Core.Path.{◌≡◌, refl, sym, ap, ◌∙◌, subst}
 use mathlib.Core.Bool.{Bool, true, false}
-use mathlib.Core.List.{List, [], ◌∷◌, map, map-append}
-use Prim.Native.Nat.{ℕ, ◌+◌, ◌≤◌, ◌<◌}
-use native.Mathlib.Numerals.{add-one}
+use mathlib.Core.List.{List, [], ◌∷◌, map}
+use Prim.Native.Nat.{ℕ, ◌≤◌, ◌<◌}
 use native.Mathlib.Omega.{arith}
 use lib.ListN.{length, get_or, set, take, get_or-map}
-use lib.Seq.{set-get_or, set-set, get_or-set_same, get_or-set_other, take-suc, take-suc-set, take_all}
+use lib.Seq.{set-get_or, set-set, get_or-set_same, get_or-set_other, take_all}
 use Rattle.rules.specs.declared.Cpu.{Cpu}
 use Rattle.rules.specs.declared.Extents.{Extents}
 use Rattle.rules.specs.declared.Plant.{Plant}
@@ -150,9 +149,6 @@ mapped f d e xs ys n h =
 module _ {A B : Type 0} (f : A → B) (l : List A) where
   abbrev pub Filled : List B → ℕ → Type 0
   Filled s i = take i s ≡ map f (take i l)
-
-  pub filled_next : (s : List B) (i : ℕ) (v : B) (d : A) → Filled s i → i < length s → i < length l → v ≡ f (get_or l i d) → Filled (set s i v) (i + 1)
-  filled_next s i v d e h k p = rw (add-one, take-suc-set s i v h, take-suc l i d k, map-append f (take i l) (get_or l i d ∷ []), e, p)
 
   pub filled_all : (s : List B) (i : ℕ) → Filled s i → length s ≤ i → length l ≤ i → s ≡ map f l
   filled_all s i e h k = sym (take_all i s h) ∙ e ∙ ap (map f) (take_all i l k)
