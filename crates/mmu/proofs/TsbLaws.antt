@@ -9,13 +9,14 @@ use native.Mathlib.Nat.{eq-or-lt_of_le}
 use native.Mathlib.Numerals.{add-one}
 use native.Mathlib.Omega.{arith}
 use lib.Dec.{eqb}
-use lib.ListN.{set}
+use lib.ListN.{set, replicate}
 use Rattle.rules.specs.declared.Answer.TheVariants.{Done, Refused}
 use Rattle.rules.specs.declared.Extents.{Extents}
 use Rattle.rules.specs.declared.Plant.{Plant}
 use Rattle.rules.specs.declared.Refusal.{Refusal}
 use Rattle.rules.specs.declared.Tsb.{Tsb}
 use Rattle.rules.specs.declared.Tsbs.{Tsbs}
+use Rattle.rules.specs.Limits.{cpu_limit}
 use Rattle.rules.specs.Kept.{blank_tsbs}
 use Rattle.rules.specs.Real.{Sight, sight_of, number_of}
 use Rattle.rules.specs.Rulings.{Ruling, refused, granted, ◌grants◌, done}
@@ -25,7 +26,6 @@ use Rattle.memory.specs.Ready.{present}
 use Rattle.records.specs.Verdict.{Verdict, verdict_of}
 use Rattle.records.proofs.Told.{told_refused, told_then}
 use Rattle.plants.specs.declared.change.Change.{Change}
-use Rattle.plants.specs.declared.change.CpuChange.{CpuChange}
 use Rattle.plants.specs.declared.change.Done.{Done as Gave}
 use Rattle.plants.specs.Changes.{done_by, changed_by, plant_after}
 use Rattle.plants.specs.Follows.{Follows}
@@ -98,24 +98,25 @@ module _ (s : Sight) (pointer : ℕ) where
   unfolding listed ruled
   listed_all i n list e q = rw (← q, e)
 
-module _ (extents : Extents) (plant : Plant) (m : List ℕ) (cpu ntsb pointer : ℕ) (how : Tsbs → CpuChange) (d : Gave) where
+module _ (extents : Extents) (plant : Plant) (m : List ℕ) (ntsb pointer : ℕ) (change : Change) (d : Gave) where
   -- by what the list came to
   pub set_refused : (r : Result Tsbs Refusal) (x : Refusal) → new_tsbs (sight_of (present extents) m) ntsb pointer ≡ ruled r → r ≡ Err x → d ≡ done_by (Refused x) Change.Nothing
-      → Follows extents plant (set_tsbs (sight_of (present extents) m) plant cpu ntsb pointer how) m d m
+      → Follows extents plant (set_tsbs (sight_of (present extents) m) plant ntsb pointer change) m d m
   unfolding set_tsbs ruled
   set_refused r x f e g = quiet_refused extents plant _ m d x g (rw (f, e))
 
-  pub set_right : (r : Result Tsbs Refusal) (l : Tsbs) (part : CpuChange) → new_tsbs (sight_of (present extents) m) ntsb pointer ≡ ruled r → r ≡ Ok l → part ≡ how l → d ≡ done_by Done (Change.Cpu cpu part)
-      → Follows extents plant (set_tsbs (sight_of (present extents) m) plant cpu ntsb pointer how) m d m
-  unfolding set_tsbs ruled plant_after done_by
-  set_right r l part f e p g = quiet extents plant _ m d (rw (f, e, g, p))
+  pub set_right : (r : Result Tsbs Refusal) (l : Tsbs) → new_tsbs (sight_of (present extents) m) ntsb pointer ≡ ruled r → r ≡ Ok l
+      → d ≡ record { answer = Done; change = change; tsbs = l; tails = replicate cpu_limit 0 }
+      → Follows extents plant (set_tsbs (sight_of (present extents) m) plant ntsb pointer change) m d m
+  unfolding set_tsbs ruled plant_after
+  set_right r l f e g = quiet extents plant _ m d (rw (f, e, g))
 
   -- w is what the rule makes of the record
-  pub set_by : (w : Tsbs → Plant) → ((tsbs : Tsbs) → changed_by plant (Change.Cpu cpu (how tsbs)) ≡ w tsbs) → Follows extents plant (set_tsbs (sight_of (present extents) m) plant cpu ntsb pointer how) m d m
+  pub set_by : (w : Tsbs → Plant) → ((tsbs : Tsbs) → changed_by plant tsbs (replicate cpu_limit 0) change ≡ w tsbs) → Follows extents plant (set_tsbs (sight_of (present extents) m) plant ntsb pointer change) m d m
       → Follows extents plant (new_tsbs (sight_of (present extents) m) ntsb pointer grants λ tsbs. done (w tsbs)) m d m
   unfolding set_tsbs
   set_by w f h = go (new_tsbs (sight_of (present extents) m) ntsb pointer) h
     where
-      go : (x : Ruling Tsbs) → Follows extents plant (x grants λ tsbs. done (changed_by plant (Change.Cpu cpu (how tsbs)))) m d m → Follows extents plant (x grants λ tsbs. done (w tsbs)) m d m
+      go : (x : Ruling Tsbs) → Follows extents plant (x grants λ tsbs. done (changed_by plant tsbs (replicate cpu_limit 0) change)) m d m → Follows extents plant (x grants λ tsbs. done (w tsbs)) m d m
       go (refused r) h = h
       go (granted l) h = rw (f l) at h

@@ -1,13 +1,13 @@
 -- The steps of 0x20 and 0x21 that are functions of their own in the code.
-use Rattle.std.specs.Prelude.{◌≡◌, ℕ, Result, Ok, Err}
+use Rattle.std.specs.Prelude.{ℕ, replicate, Result, Ok, Err}
 use Rattle.rules.specs.declared.Plant.{Plant}
 use Rattle.rules.specs.declared.Refusal.{Refusal}
 use Rattle.rules.specs.declared.Tsbs.{Tsbs}
+use Rattle.rules.specs.Limits.{cpu_limit}
 use Rattle.rules.specs.Real.{Sight}
 use Rattle.rules.specs.Rulings.{Ruling, refused, granted, ◌grants◌, Outcome, done}
 use Rattle.rules.specs.Tsb.{descriptors, new_tsbs}
 use Rattle.plants.specs.declared.change.Change.{Change}
-use Rattle.plants.specs.declared.change.CpuChange.{CpuChange}
 use Rattle.plants.specs.Changes.{changed_by}
 
 -- the last step of a new list
@@ -21,12 +21,8 @@ unfoldable pub ruled : Result Tsbs Refusal → Ruling Tsbs
 ruled (Ok tsbs) = granted tsbs
 ruled (Err r) = refused r
 
--- both calls, by how the list is set in the cpu's record
-unfoldable pub set_tsbs : Sight → Plant → ℕ → ℕ → ℕ → (Tsbs → CpuChange) → Ruling Outcome
-set_tsbs sight plant cpu ntsb pointer how =
+-- both calls, by the change that sets the list
+unfoldable pub set_tsbs : Sight → Plant → ℕ → ℕ → Change → Ruling Outcome
+set_tsbs sight plant ntsb pointer change =
     new_tsbs sight ntsb pointer grants λ tsbs.
-    done (changed_by plant (Change.Cpu cpu (how tsbs)))
-
--- each call of a closure gives what `how` does
-abbrev pub Gives : (Tsbs → CpuChange → Type 0) → (Tsbs → CpuChange) → Type 0
-Gives post how = (tsbs : Tsbs) (r : CpuChange) → post tsbs r → r ≡ how tsbs
+    done (changed_by plant tsbs (replicate cpu_limit 0) change)

@@ -6,9 +6,7 @@ ghost use Rattle.rules.specs.Real.{valid, byte_at, sight_of};
 ghost use Rattle.rules.specs.Tsb.{descriptor_at, new_tsbs, mmu_tsb_ctx0, mmu_tsb_ctxnon0};
 ghost use Rattle.memory.specs.Ready.{present, Ready};
 ghost use Rattle.plants.specs.Follows.{Follows};
-ghost use Rattle.plants.specs.declared.change.CpuChange.{CpuChange};
-ghost use Rattle.rules.specs.declared.Tsbs.{Tsbs};
-ghost use Rattle.mmu.specs.Lists.{listed, ruled, Gives, set_tsbs};
+ghost use Rattle.mmu.specs.Lists.{listed, ruled, set_tsbs};
 
 use plants::{Change, CpuChange, Done, done_by, told};
 use records::blank;
@@ -71,25 +69,20 @@ fn new_tsbs(extents: Extents, mem: &[u8], ntsb: u64, pointer: u64) -> Result<Tsb
     read_tsbs(extents, mem, ntsb as u8, pointer)
 }
 
-// What 0x20 and 0x21 share: a new list is read, and `part` says where in the cpu's record it goes. The plant's record is not read.
-fn set_tsbs<F: Fn(Tsbs) -> CpuChange>(
-    extents: Extents,
-    mem: &[u8],
-    cpu: usize,
-    ntsb: u64,
-    pointer: u64,
-    part: F,
-) -> Done
+// What 0x20 and 0x21 share: a new list is read, and the change sets it. The plant's record is not read.
+fn set_tsbs(extents: Extents, mem: &[u8], ntsb: u64, pointer: u64, change: Change) -> Done
     requires extents_le_extent_limit { extents.extents ≤ extent_limit }
     requires ready { Ready (present extents) (length mem.now) }
-    requires callable { F.IsAlwaysCallable part }
-    ensures { (plant : PlantRecord) (how : Tsbs → CpuChange) → Gives (F.post part) how →
-        Follows extents plant (set_tsbs (sight_of (present extents) mem.now) plant cpu ntsb pointer how)
+    ensures { (plant : PlantRecord) →
+        Follows extents plant (set_tsbs (sight_of (present extents) mem.now) plant ntsb pointer change)
         mem.now result mem.now }
 {
     match new_tsbs(extents, mem, ntsb, pointer) {
         Err(r) => told(Answer::Refused(r)),
-        Ok(tsbs) => done_by(Answer::Done, Change::Cpu(cpu, part(tsbs))),
+        Ok(tsbs) => Done {
+            tsbs,
+            ..done_by(Answer::Done, change)
+        },
     }
 }
 
@@ -102,7 +95,8 @@ pub fn mmu_tsb_ctx0(extents: Extents, mem: &[u8], cpu: usize, ntsb: u64, pointer
         Follows extents plant (mmu_tsb_ctx0 (sight_of (present extents) mem.now) plant cpu ntsb pointer)
         mem.now result mem.now }
 {
-    set_tsbs(extents, mem, cpu, ntsb, pointer, CpuChange::Ctx0)
+    let change = Change::Cpu(cpu, CpuChange::Ctx0);
+    set_tsbs(extents, mem, ntsb, pointer, change)
 }
 
 // 0x21: the list for the other contexts, whatever the plant's record is.
@@ -114,5 +108,6 @@ pub fn mmu_tsb_ctxnon0(extents: Extents, mem: &[u8], cpu: usize, ntsb: u64, poin
         Follows extents plant (mmu_tsb_ctxnon0 (sight_of (present extents) mem.now) plant cpu ntsb pointer)
         mem.now result mem.now }
 {
-    set_tsbs(extents, mem, cpu, ntsb, pointer, CpuChange::Ctxnon0)
+    let change = Change::Cpu(cpu, CpuChange::Ctxnon0);
+    set_tsbs(extents, mem, ntsb, pointer, change)
 }

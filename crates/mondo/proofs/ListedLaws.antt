@@ -28,7 +28,7 @@ use Rattle.plants.specs.declared.change.Done.{Done as Gave}
 use Rattle.plants.specs.Changes.{with_tails, done_by, changed_by, plant_after}
 use Rattle.plants.specs.Follows.{Follows}
 use Rattle.plants.specs.Judged.{judged}
-use Rattle.mondo.specs.Steps.{mondo_ranges, mondo_cpus, mondo_sent, Sends}
+use Rattle.mondo.specs.Steps.{mondo_ranges, mondo_cpus, mondo_sent, Sends, sent_by}
 use Rattle.plants.proofs.JudgedLaws.{judged_refused, judged_right, judged_told}
 use Rattle.plants.proofs.OutcomeLaws.{quiet_refused}
 
@@ -76,14 +76,14 @@ module _ (extents : Extents) (plant : Plant) (m cs : List ℕ) (cpu count list a
 
   module _ (h : t ≡ Ok tt) (packet : List ℕ) (p : packet ≡ bytes_from (byte_at (present extents) m) at 64) (tails : List ℕ) (all : Bool) (m' : List ℕ)
       (g : Sends extents (send_all plant cs packet list) m (record { plant = with_tails plant tails; all = all }) m') (d : Gave) where
-    pub listed_sent : all ≡ true → d ≡ done_by Done (Change.Tails tails) → Follows extents plant (mondo_sent (sight_of (present extents) m) plant cpu count list at) m d m'
-    unfolding mondo_sent plant_after changed_by done_by
+    pub listed_sent : all ≡ true → d ≡ sent_by Done tails → Follows extents plant (mondo_sent (sight_of (present extents) m) plant cpu count list at) m d m'
+    unfolding mondo_sent sent_by plant_after changed_by
     listed_sent k n =
         rw (n, cpus_same _ list cs count l e, judged_right asked t f h, ← p, ← e)
         (record { answer = rw (← g.all, k); plant = g.plant; memory = g.memory })
 
-    pub listed_left : all ≡ false → d ≡ done_by (Refused EWOULDBLOCK) (Change.Tails tails) → Follows extents plant (mondo_sent (sight_of (present extents) m) plant cpu count list at) m d m'
-    unfolding mondo_sent plant_after changed_by done_by
+    pub listed_left : all ≡ false → d ≡ sent_by (Refused EWOULDBLOCK) tails → Follows extents plant (mondo_sent (sight_of (present extents) m) plant cpu count list at) m d m'
+    unfolding mondo_sent sent_by plant_after changed_by
     listed_left k n =
         rw (n, cpus_same _ list cs count l e, judged_right asked t f h, ← p, ← e)
         (record { answer = rw (← g.all, k); plant = g.plant; memory = g.memory })

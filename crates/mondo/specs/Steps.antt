@@ -1,5 +1,6 @@
 -- The steps of 0x42's rule that are functions of their own in the code.
 use Rattle.std.specs.Prelude.{◌≡◌, Bool, ◌&&◌, not, List, ◌++◌, map, ℕ, ◌*◌, ◌%◌, leb, eqb}
+use Rattle.rules.specs.declared.Answer.{Answer}
 use Rattle.rules.specs.declared.Cpu.{Cpu}
 use Rattle.rules.specs.declared.Extents.{Extents}
 use Rattle.rules.specs.declared.Plant.{Plant}
@@ -13,6 +14,9 @@ use Rattle.rules.specs.Rulings.{Ruling, granted, Outcome, ◌or_refuse◌then◌
 use Rattle.rules.specs.Queues.{PutIn, put_in, index_of}
 use Rattle.rules.specs.Mondo.{listed_cpu, listed_cpus, is_caller, is_stranger, Sent, marked, send_all, sent_as}
 use Rattle.memory.specs.Ready.{present}
+use Rattle.plants.specs.declared.change.Change.{Change}
+use Rattle.plants.specs.declared.change.Done.{Done}
+use Rattle.plants.specs.Changes.{done_by}
 
 -- what is asked before the list is read
 unfoldable pub mondo_ranges : (ℕ → ℕ → Bool) → ℕ → ℕ → ℕ → Ruling Outcome → Ruling Outcome
@@ -69,3 +73,7 @@ tail_in queue = tail_of queue.held
 
 unfoldable pub tails_of : List Queue → List ℕ
 tails_of rings = map tail_in rings
+
+-- an answer, with the tails of the 0x3c rings there
+unfoldable pub sent_by : Answer → List ℕ → Done
+sent_by answer tails = record { answer = answer; change = Change.Tails; tsbs = (done_by answer Change.Tails).tsbs; tails = tails }

@@ -13,7 +13,7 @@ ghost use Rattle.plants.specs.Changes.{with_tails};
 ghost use Rattle.plants.specs.Follows.{Follows};
 ghost use Rattle.plants.specs.Judged.{judged};
 ghost use Rattle.plants.specs.Put.{PutsIn, HeldSound};
-ghost use Rattle.mondo.specs.Steps.{mondo_ranges, mondo_cpus, mondo_sent, send_in, Sends, tail_of, rings_of, tails_of};
+ghost use Rattle.mondo.specs.Steps.{mondo_ranges, mondo_cpus, mondo_sent, send_in, Sends, tail_of, rings_of, tails_of, sent_by};
 
 use plants::{Change, Done, at_tail, done_by, put_entry, told};
 use rules::{Answer, CPUS, Extents, Plant, Queue, QueueRecord, Real, Refusal};
@@ -183,6 +183,16 @@ fn send_all(
     Sent { tails, all }
 }
 
+// An answer, with the tails of the 0x3c rings there.
+#[tactic(auto, unfolding(crate::specs::Steps::sent_by, plants::specs::Changes::done_by))]
+fn told_tails(answer: Answer, tails: [u16; CPUS]) -> Done
+    ensures { result ≡ sent_by answer tails }
+{
+    let mut done = done_by(answer, Change::Tails);
+    done.tails = tails;
+    done
+}
+
 // List and data are read once, before any write.
 fn send_listed(
     extents: Extents,
@@ -207,11 +217,10 @@ fn send_listed(
         Ok(()) => {
             let packet = memory::bytes::<64>(extents, mem, Real(data));
             let sent = send_all(extents, plant, mem, cpus, &packet, list);
-            let change = Change::Tails(sent.tails);
             if sent.all {
-                return done_by(Answer::Done, change);
+                return told_tails(Answer::Done, sent.tails);
             }
-            done_by(Answer::Refused(Refusal::EWOULDBLOCK), change)
+            told_tails(Answer::Refused(Refusal::EWOULDBLOCK), sent.tails)
         }
     }
 }

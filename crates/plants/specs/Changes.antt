@@ -1,20 +1,21 @@
 -- What an event changes of its plant's record, and the record after.
-use Rattle.std.specs.Prelude.{◌&&◌, List, [], ◌∷◌, ℕ, zero, suc, ltb, get_or, if◌then◌else◌}
+use Rattle.std.specs.Prelude.{◌&&◌, List, [], ◌∷◌, ℕ, zero, suc, ltb, get_or, replicate, if◌then◌else◌}
 use Rattle.rules.specs.declared.Answer.{Answer}
 use Rattle.rules.specs.declared.Cpu.{Cpu}
 use Rattle.rules.specs.declared.Plant.{Plant}
 use Rattle.rules.specs.declared.QueueRecord.{QueueRecord}
+use Rattle.rules.specs.declared.Tsbs.{Tsbs}
 use Rattle.rules.specs.Limits.{cpu_limit, queue_limit, source_limit}
-use Rattle.rules.specs.Kept.{cpu_at, queue_at, with_versions, with_cpu, with_queue, with_source, with_tail, cpu_with_queue, cpu_with_ctx0, cpu_with_ctxnon0, cpu_with_statistics}
+use Rattle.rules.specs.Kept.{blank_tsbs, cpu_at, queue_at, with_versions, with_cpu, with_queue, with_source, with_tail, cpu_with_queue, cpu_with_ctx0, cpu_with_ctxnon0, cpu_with_statistics}
 use Rattle.rules.specs.Queues.{index_of}
 use Rattle.rules.specs.Versions.{all_disabled}
 use Rattle.plants.specs.declared.change.Change.{Change}
 use Rattle.plants.specs.declared.change.CpuChange.{CpuChange}
 use Rattle.plants.specs.declared.change.Done.{Done}
 
--- an answer, and what changes
+-- an answer, and a change that no list and no tails belong to
 unfoldable pub done_by : Answer → Change → Done
-done_by answer change = record { answer = answer; change = change }
+done_by answer change = record { answer = answer; change = change; tsbs = blank_tsbs; tails = replicate cpu_limit 0 }
 
 -- a ring with its tail there
 unfoldable pub at_tail : QueueRecord → ℕ → QueueRecord
@@ -41,22 +42,22 @@ with_tails plant tails = record {
 }
 
 -- a cpu's record after
-unfoldable pub cpu_after : Cpu → CpuChange → Cpu
-cpu_after cpu (CpuChange.Queue q held) = if ltb q queue_limit then cpu_with_queue cpu q held else cpu
-cpu_after cpu (CpuChange.Ctx0 tsbs) = cpu_with_ctx0 cpu tsbs
-cpu_after cpu (CpuChange.Ctxnon0 tsbs) = cpu_with_ctxnon0 cpu tsbs
-cpu_after cpu (CpuChange.Statistics address) = cpu_with_statistics cpu address
+unfoldable pub cpu_after : Cpu → Tsbs → CpuChange → Cpu
+cpu_after cpu tsbs (CpuChange.Queue q held) = if ltb q queue_limit then cpu_with_queue cpu q held else cpu
+cpu_after cpu tsbs CpuChange.Ctx0 = cpu_with_ctx0 cpu tsbs
+cpu_after cpu tsbs CpuChange.Ctxnon0 = cpu_with_ctxnon0 cpu tsbs
+cpu_after cpu tsbs (CpuChange.Statistics address) = cpu_with_statistics cpu address
 
 -- the plant's record after; a place that is not there is not changed
-unfoldable pub changed_by : Plant → Change → Plant
-changed_by plant Change.Nothing = plant
-changed_by plant (Change.Versions v) = with_versions plant v
-changed_by plant (Change.Disabled v) = all_disabled (with_versions plant v)
-changed_by plant (Change.Cpu c part) = if ltb c cpu_limit then with_cpu plant c (cpu_after (cpu_at plant c) part) else plant
-changed_by plant (Change.Source i source) = if ltb i source_limit then with_source plant i source else plant
-changed_by plant (Change.Delivered i source c held) =
+unfoldable pub changed_by : Plant → Tsbs → List ℕ → Change → Plant
+changed_by plant tsbs tails Change.Nothing = plant
+changed_by plant tsbs tails (Change.Versions v) = with_versions plant v
+changed_by plant tsbs tails (Change.Disabled v) = all_disabled (with_versions plant v)
+changed_by plant tsbs tails (Change.Cpu c part) = if ltb c cpu_limit then with_cpu plant c (cpu_after (cpu_at plant c) tsbs part) else plant
+changed_by plant tsbs tails (Change.Source i source) = if ltb i source_limit then with_source plant i source else plant
+changed_by plant tsbs tails (Change.Delivered i source c held) =
     if ltb i source_limit && ltb c cpu_limit then with_source (with_queue plant c (index_of 0x3d) held) i source else plant
-changed_by plant (Change.Tails tails) = with_tails plant tails
+changed_by plant tsbs tails Change.Tails = with_tails plant tails
 
 unfoldable pub plant_after : Plant → Done → Plant
-plant_after plant d = changed_by plant d.change
+plant_after plant d = changed_by plant d.tsbs d.tails d.change

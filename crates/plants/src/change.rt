@@ -7,17 +7,18 @@ ghost use Rattle.plants.specs.Changes.{done_by, cpu_after, plant_after};
 use crate::parts::{all_disabled, set_tails};
 use rules::{Answer, CPUS, Cpu, Plant, QUEUES, QueueRecord, SOURCES, Source, Tsbs, Versions};
 
-// A queue's record, the TSB list of 0x20 or that of 0x21, or the statistics address.
+// A queue's record, a TSB list, which stands beside it in Done, or the statistics address.
 #[derive(Clone, Copy)]
 pub enum CpuChange {
     Queue(usize, QueueRecord),
-    Ctx0(Tsbs),
-    Ctxnon0(Tsbs),
+    Ctx0,
+    Ctxnon0,
     Statistics(u64),
 }
 
 // The versions, in Disabled with every source of the guest disabled; a cpu's record; a source's, in Delivered with the 0x3d
-// queue of a cpu; or the tails of the 0x3c rings.
+// queue of a cpu; or the tails of the 0x3c rings. Tails and TSB lists stand beside it in Done: the cases of an enum lie one behind
+// another, so with the lists in theirs (tried) a Done has 682 bytes for 391, and raise takes more than twice the oracle's time.
 #[derive(Clone, Copy)]
 pub enum Change {
     Nothing,
@@ -26,7 +27,7 @@ pub enum Change {
     Cpu(usize, CpuChange),
     Source(usize, Source),
     Delivered(usize, Source, usize, QueueRecord),
-    Tails([u16; CPUS]),
+    Tails,
 }
 
 // What a call gives back: the answer, and what it changes.
@@ -34,14 +35,21 @@ pub enum Change {
 pub struct Done {
     pub answer: Answer,
     pub change: Change,
+    pub tsbs: Tsbs,
+    pub tails: [u16; CPUS],
 }
 
-// An answer, and what changes.
+// An answer, and a change that no list and no tails belong to.
 #[tactic(auto, unfolding(crate::specs::Changes::done_by))]
 pub fn done_by(answer: Answer, change: Change) -> Done
     ensures { result ≡ done_by answer change }
 {
-    Done { answer, change }
+    Done {
+        answer,
+        change,
+        tsbs: records::blank::tsbs(),
+        tails: [0; CPUS],
+    }
 }
 
 // An answer, with the record as it was.
@@ -53,8 +61,8 @@ pub fn told(answer: Answer) -> Done
 
 // A cpu's record after. A queue that is not there is not changed.
 #[tactic(auto, unfolding(crate::specs::Changes::cpu_after))]
-pub fn cpu_after(cpu: Cpu, change: CpuChange) -> Cpu
-    ensures { result ≡ cpu_after cpu change }
+pub fn cpu_after(cpu: Cpu, change: CpuChange, tsbs: Tsbs) -> Cpu
+    ensures { result ≡ cpu_after cpu tsbs change }
 {
     let mut next = cpu;
     match change {
@@ -63,8 +71,8 @@ pub fn cpu_after(cpu: Cpu, change: CpuChange) -> Cpu
                 next.queue[q].held = held;
             }
         }
-        CpuChange::Ctx0(tsbs) => next.ctx0 = tsbs,
-        CpuChange::Ctxnon0(tsbs) => next.ctxnon0 = tsbs,
+        CpuChange::Ctx0 => next.ctx0 = tsbs,
+        CpuChange::Ctxnon0 => next.ctxnon0 = tsbs,
         CpuChange::Statistics(address) => next.statistics = address,
     }
     next
@@ -85,7 +93,7 @@ pub fn change_plant(plant: &mut Plant, done: Done)
         }
         Change::Cpu(c, part) => {
             if c < CPUS {
-                plant.cpu[c] = cpu_after(plant.cpu[c], part);
+                plant.cpu[c] = cpu_after(plant.cpu[c], part, done.tsbs);
             }
         }
         Change::Source(i, s) => {
@@ -96,10 +104,10 @@ pub fn change_plant(plant: &mut Plant, done: Done)
         Change::Delivered(i, s, c, held) => {
             if i < SOURCES && c < CPUS {
                 plant.source[i] = s;
-                plant.cpu[c] = cpu_after(plant.cpu[c], CpuChange::Queue(1, held));
+                plant.cpu[c] = cpu_after(plant.cpu[c], CpuChange::Queue(1, held), done.tsbs);
             }
         }
-        Change::Tails(tails) => set_tails(plant, tails),
+        Change::Tails => set_tails(plant, done.tails),
     }
 }
 

@@ -81,7 +81,7 @@ module _ (extents : Extents) (plant : Plant) (m : List ℕ) (i : ℕ) (s : Sourc
         let q : PutsIn extents (put_in (queue_at (cpu_at plant s.target) 1) entry) m None m' = ring None p in
         let full : (put_in (queue_at (cpu_at plant s.target) 1) entry).room ≡ false = puts_none extents _ m m' q in
         rw (told, full, g)
-        (record { answer = refl; plant = source_after plant i _ source_below; memory = q.memory ∙ ap (λ (t : PutIn). apply (present extents) m t.writes) (put_full (queue_at (cpu_at plant s.target) 1) entry full) })
+        (record { answer = refl; plant = source_after plant _ _ i _ source_below; memory = q.memory ∙ ap (λ (t : PutIn). apply (present extents) m t.writes) (put_full (queue_at (cpu_at plant s.target) 1) entry full) })
 
     pub deliver_done : (d : Done) (after : QueueRecord) → PutsIn extents (put_in (queue_at own 1) entry) m (Some after) m' → d ≡ done_by (One 2) (Change.Delivered i (with_state s 2) s.target after) → Follows extents plant (raise_at plant i) m d m'
     unfolding done_by plant_after put
@@ -89,4 +89,4 @@ module _ (extents : Extents) (plant : Plant) (m : List ℕ) (i : ℕ) (s : Sourc
         let q : PutsIn extents (put_in (queue_at (cpu_at plant s.target) 1) entry) m (Some after) m' = ring (Some after) p in
         let had = puts_some extents (put_in (queue_at (cpu_at plant s.target) 1) entry) m m' after q in
         rw (told, had.0, g, had.1)
-        (record { answer = refl; plant = delivered_after plant s.target (omega (arith, sound.cpus, target_there)) i _ _ source_below; memory = q.memory })
+        (record { answer = refl; plant = delivered_after plant _ _ s.target (omega (arith, sound.cpus, target_there)) i _ _ source_below; memory = q.memory })

@@ -1,7 +1,8 @@
 // Which version of each API group a guest speaks: set version and get version.
 #![tactic(auto)]
 
-ghost use Rattle.std.specs.Prelude.{◌≡◌, Some};
+ghost use Rattle.std.specs.Prelude.{◌≡◌, List, ℕ, Some};
+ghost use Rattle.rules.specs.declared.Tsbs.{Tsbs};
 ghost use Rattle.rules.specs.Rulings.{outcome_of};
 ghost use Rattle.rules.specs.Versions.{group_of, newest, major_of, with_major, negotiated, set_version, get_version};
 ghost use Rattle.plants.specs.Changes.{changed_by};
@@ -66,7 +67,7 @@ fn with_major(v: Versions, group: Group, major: u8) -> Versions
 // What setting the version changes: going to 2.0 disables every source, repeating a version changes nothing.
 #[tactic(auto, unfolding(rules::specs::Versions::negotiated, plants::specs::Changes::changed_by))]
 fn negotiate(plant: Plant, group: Group, major: u8) -> Change
-    ensures { changed_by plant result ≡ negotiated plant (Some group) major }
+    ensures { (tsbs : Tsbs) (tails : List ℕ) → changed_by plant tsbs tails result ≡ negotiated plant (Some group) major }
 {
     let before = major_of(plant.versions, group);
     let versions = with_major(plant.versions, group, major);

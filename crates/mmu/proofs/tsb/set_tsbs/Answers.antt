@@ -1,9 +1,12 @@
 -- `mmu::tsb::set_tsbs` meets its contract: by what the list came to.
+use Rattle.std.proofs.Common.{refl}
+use Rattle.plants.specs.Changes.{done_by}
 use Rattle.mmu.proofs.TsbLaws.{set_refused, set_right}
 use Rattle.mmu.proofs.tsb.set_tsbs.Goals as goal
 
 pub returns-in-Err : goal.returns-in-Err
-returns-in-Err g c = λ plant how gives. set_refused _ plant _ _ _ _ how _ _ _ c.new_tsbs.ensures c.in-Err.is c.told.ensures
+returns-in-Err c = search set_refused
 
-pub returns : goal.returns
-returns g c = λ plant how gives. set_right _ plant _ _ _ _ how _ _ _ _ c.new_tsbs.ensures c.in-Ok.is (gives _ _ c.part.ensures) c.done_by.ensures
+pub returns-in-Ok : goal.returns-in-Ok
+unfolding done_by
+returns-in-Ok c = λ plant. rw c.done_by.ensures (set_right _ plant _ _ _ _ _ _ _ c.new_tsbs.ensures c.in-Ok.is refl)
