@@ -22,6 +22,7 @@ impl Style for Plain {
     ) -> Result<Feeder, Unwritten> {
         let mut left = feeder;
         let mut from = 0;
+        // A while: a turn takes as many bytes as the feed did, so no index is counted.
         while from < piece.len() {
             let fed = session::feed(left, mem, &piece[from..], out);
             write_text(streams, &out[..fed.written])?;

@@ -125,6 +125,7 @@ fn add_extent(n: usize, tables: Tables, x: Extent) -> Desk
     with_last(tables, guest)
 }
 
+// The same steps as add_extent, over another list and limit: one function for both would be given each step as a closure.
 #[tactic(auto, unfolding(rules::specs::Plan::drawn))]
 fn add_source(n: usize, tables: Tables, s: Source) -> Desk
     ensures { result ≡ drawn n tables (Some (PlanLine.Source s)) }

@@ -14,6 +14,7 @@ fn extent_held(ns: [u64; FIELDS]) -> bool
     ns[0] < 0x1_0000_0000 && ns[1] < 0x1_0000 && ns[2] < 0x1_0000
 }
 
+// The test and the casts stand apart, as in the rule (a TryFrom with `?` was tried: its goals stayed open).
 #[tactic(auto, unfolding(rules::specs::Plan::extent_held))]
 fn extent_of(ns: [u64; FIELDS]) -> Extent
     requires { extent_held ns ≡ true }

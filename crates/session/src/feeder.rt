@@ -10,7 +10,7 @@ use rules::{Reply, Tables};
 // As many bytes as are kept of a line: one more than the longest has, which is enough to tell that it is too long.
 pub const LINE: usize = 2049;
 
-// The tables, and the first held bytes of a line that has not ended.
+// The tables, and the first held bytes of a line that has not ended. An array with its length: no heap, and the definitions name both.
 #[derive(Clone, Copy)]
 pub struct Feeder {
     pub tables: Tables,

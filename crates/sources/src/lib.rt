@@ -34,8 +34,9 @@ pub fn sysino_of(plant: Plant, devhandle: u64, devino: u64) -> Option<usize>
     requires { plant.sources ≤ source_limit }
     ensures { result ≡ sysino_of plant devhandle devino }
 {
+    let source = plant.source;
     position_of(
-        &plant.source[..usize::from(plant.sources)],
+        &source[..usize::from(plant.sources)],
         devhandle,
         devino,
     )
@@ -48,7 +49,8 @@ pub fn source_named(plant: Plant, devhandle: u64, devino: u64) -> Option<(usize,
     ensures { result ≡ named_in plant devhandle devino }
 {
     let i = sysino_of(plant, devhandle, devino)?;
-    Some((i, plant.source[i]))
+    let source = plant.source;
+    Some((i, source[i]))
 }
 
 // Enabling a source without a cookie is not allowed under 2.0.
@@ -179,11 +181,12 @@ pub fn intr(plant: Plant, call: SourceCall, sysino: u64, value: u64) -> Done
         return told(Answer::Refused(Refusal::EINVAL));
     }
     let i = sysino as usize;
+    let source = plant.source;
     source_call(
         plant.versions.interrupt,
         plant.cpus,
         i,
-        plant.source[i],
+        source[i],
         value,
         call,
     )

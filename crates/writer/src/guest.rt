@@ -14,6 +14,8 @@ use rules::widths::{
 };
 use rules::{Extent, Extents, Guest, Plant, Source};
 
+// Each record is written by its own named widths, in the image's order: these three differ in all that they say.
+
 // An extent from bit `at` on: real page 28 bits, page count 16, host page 16.
 fn put_extent(out: &mut [u8], at: u64, x: Extent)
     requires { (at < 2 ^ 32) × (at + extent_bits ≤ 8 * length out.old) }
