@@ -14,8 +14,7 @@ fn has_source(plant: Plant, d: Device) -> bool
     sources::sysino_of(plant, d.devhandle, d.devino).is_some()
 }
 
-// A raise belongs to the guest that has the source. A loop of GUESTS turns lets the compiler read the guests where they are, and so do the
-// locals: an element of a parameter, passed on, is copied with all that lies around it (tried: 12 KB for each raise).
+// A raise belongs to the guest that has the source. A loop of GUESTS turns lets the compiler read the guests where they are.
 fn raise_owner(guests: u8, guest: [Guest; GUESTS], d: Device) -> Option<u64>
     requires { Counted guests guest }
     ensures { result ≡ raise_owner guests guest d }
@@ -25,9 +24,7 @@ fn raise_owner(guests: u8, guest: [Guest; GUESTS], d: Device) -> Option<u64>
         if count <= g {
             return None;
         }
-        let at = guest[g];
-        let plant = at.plant;
-        if has_source(plant, d) {
+        if has_source(guest[g].plant, d) {
             return Some(g as u64);
         }
     }
@@ -43,10 +40,7 @@ pub(crate) fn owner_of(tables: Tables, event: Event) -> Option<u64>
     match event {
         Event::Call(c) => Some(c.guest),
         Event::Head(h) => Some(h.guest),
-        Event::Raise(d) => {
-            let guest = tables.guest;
-            raise_owner(tables.guests, guest, d)
-        }
+        Event::Raise(d) => raise_owner(tables.guests, tables.guest, d),
         Event::Load(l) => Some(l.guest),
         Event::Store(s) => Some(s.guest),
         Event::Hit(t) => Some(t.guest),
