@@ -35,11 +35,7 @@ pub fn sysino_of(plant: Plant, devhandle: u64, devino: u64) -> Option<usize>
     ensures { result ≡ sysino_of plant devhandle devino }
 {
     let source = plant.source;
-    position_of(
-        &source[..usize::from(plant.sources)],
-        devhandle,
-        devino,
-    )
+    position_of(&source[..usize::from(plant.sources)], devhandle, devino)
 }
 
 // The same with the source's record.
