@@ -46,14 +46,16 @@ fn onward(x: Extent, at: u64) -> u64
     if inside(x, Real(at)) { end(x) } else { at }
 }
 
-// How far every address from base on lies in some extent: one step an extent, in the order of the list.
+// How far every address from base on lies in some extent: one step an extent, in the order of the list. The list is taken out, since
+// of a slice of the parameter's own all of the record is stored anew, and an extent waits for it.
 #[tactic(auto, using(crate::proofs::Holds::onward_on, crate::proofs::Holds::onward_end))]
 fn reached(e: Extents, base: u64) -> u64
     requires { e.extents ≤ extent_limit }
     ensures { result ≡ reach (present e) base }
 {
+    let list = e.extent;
     let mut at = base;
-    for x in &e.extent[..e.extents as usize] {
+    for x in &list[..e.extents as usize] {
         at = onward(*x, at);
     }
     at
@@ -90,13 +92,14 @@ fn part(x: Extent, real: Real, len: usize) -> Piece
 }
 
 // The first piece of the len bytes from a real address on: those in the extent that has the address, or none if no extent has. The
-// address behind the piece is a number of 64 bits, so that one can go on from there.
+// address behind the piece is a number of 64 bits, so that one can go on from there. The list is taken out as in reached.
 #[tactic(auto, using(crate::proofs::Holds::piece_found, crate::proofs::Holds::piece_on, crate::proofs::Holds::piece_none))]
 pub(crate) fn piece_at(e: Extents, real: Real, len: usize) -> Piece
     requires { e.extents ≤ extent_limit }
     ensures { (result ≡ piece_of (present e) real.0 len) × (real.0 + result.len < 2 ^ 64) }
 {
-    for x in &e.extent[..e.extents as usize] {
+    let list = e.extent;
+    for x in &list[..e.extents as usize] {
         if inside(*x, real) {
             return part(*x, real, len);
         }

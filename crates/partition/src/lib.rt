@@ -74,9 +74,9 @@ fn first_breaking<F: Fn(Extents, usize) -> bool>(t: Tables, holds: F) -> Option<
     ensures { (rule : Extents → ℕ → Bool) → Holds (F.post holds) rule → result ≡ first_breaking rule t }
 {
     (0..RUNS).find(|&k| {
-        let e = t.guest[k / EXTENTS].extents;
+        let e = &t.guest[k / EXTENTS].extents;
         let i = k % EXTENTS;
-        i < usize::from(e.extents) && !holds(e, i)
+        i < usize::from(e.extents) && !holds(*e, i)
     })
 }
 

@@ -17,8 +17,7 @@ pub enum CpuChange {
 }
 
 // The versions, in Disabled with every source of the guest disabled; a cpu's record; a source's, in Delivered with the 0x3d
-// queue of a cpu; or the tails of the 0x3c rings. Tails and TSB lists stand beside it in Done: the cases of an enum lie one behind
-// another, so with the lists in theirs (tried) a Done has 682 bytes for 391, and an event copies it some four times.
+// queue of a cpu; or the tails of the 0x3c rings. Tails and TSB lists stand beside it in Done, since they are arrays.
 #[derive(Clone, Copy)]
 pub enum Change {
     Nothing,

@@ -1,12 +1,13 @@
 // Interrupt sources: 0xa0 to 0xae.
 #![tactic(auto)]
 
-ghost use Rattle.std.specs.Prelude.{◌≡◌, ℕ, ◌≤◌, ◌<◌};
+ghost use Rattle.std.specs.Prelude.{◌≡◌, ℕ, ◌≤◌, ◌<◌, get_or};
 ghost use Rattle.std.specs.List.{position};
 ghost use Rattle.rules.specs.Limits.{source_limit};
 ghost use Rattle.rules.specs.declared.Plant.{Plant as PlantRecord};
 ghost use Rattle.rules.specs.Image.{named};
-ghost use Rattle.rules.specs.Kept.{source_at};
+ghost use Rattle.rules.specs.Kept.{blank_source, source_at};
+ghost use Rattle.rules.specs.Scan.{first_below};
 ghost use Rattle.rules.specs.Rulings.{outcome_of};
 ghost use Rattle.rules.specs.Sources.{set_enabled, set_state, set_target, set_cookie};
 ghost use Rattle.rules.specs.Sources.{sysino_of, intr_devino2sysino, source_call, cookie_call, intr, vintr};
@@ -14,7 +15,7 @@ ghost use Rattle.plants.specs.Done.{quietly, saying};
 ghost use Rattle.sources.specs.Seen.{named_in, Shows, set_to};
 
 use plants::{Change, Done, done_by, told};
-use rules::{Answer, CookieCall, Plant, Refusal, Source, SourceCall};
+use rules::{Answer, CookieCall, Plant, Refusal, SOURCES, Source, SourceCall};
 
 fn is_named(s: Source, devhandle: u64, devino: u64) -> bool
     ensures { result ≡ named s devhandle devino }
@@ -29,23 +30,32 @@ fn position_of(list: &[Source], devhandle: u64, devino: u64) -> Option<usize>
     list.iter().position(|s| is_named(*s, devhandle, devino))
 }
 
-// A source's position in the guest's own list; what lies past the end of the list is not looked at.
+// The same among the places of a guest's own list; what lies past the end of the list is not looked at.
+fn place_of(list: &[Source; SOURCES], count: u8, devhandle: u64, devino: u64) -> Option<usize>
+    requires { count ≤ source_limit }
+    ensures { result ≡ first_below count (λ i. named (get_or list.now i blank_source) devhandle devino) }
+{
+    position_of(&list[..usize::from(count)], devhandle, devino)
+}
+
+// A source's position in the guest's own list.
+#[tactic(auto, unfolding(rules::specs::Sources::sysino_of))]
 pub fn sysino_of(plant: Plant, devhandle: u64, devino: u64) -> Option<usize>
     requires { plant.sources ≤ source_limit }
     ensures { result ≡ sysino_of plant devhandle devino }
 {
     let source = plant.source;
-    position_of(&source[..usize::from(plant.sources)], devhandle, devino)
+    place_of(&source, plant.sources, devhandle, devino)
 }
 
-// The same with the source's record.
+// The same with the source's record, out of the list that was gone over: another local would copy all of it once more.
 #[tactic(auto, using(rules::proofs::Scan::first_below_lem), unfolding(rules::specs::Sources::sysino_of, crate::specs::Seen::named_as))]
 pub fn source_named(plant: Plant, devhandle: u64, devino: u64) -> Option<(usize, Source)>
     requires { plant.sources ≤ source_limit }
     ensures { result ≡ named_in plant devhandle devino }
 {
-    let i = sysino_of(plant, devhandle, devino)?;
     let source = plant.source;
+    let i = place_of(&source, plant.sources, devhandle, devino)?;
     Some((i, source[i]))
 }
 

@@ -1,31 +1,18 @@
 -- Laws of pieces and of texts, as the loops go through them: i is the loop's index.
-use Rattle.std.specs.Prelude.{if◌then◌else◌, Option, Some, None, nat_lt}
-use Rattle.std.specs.List.{position, position_or_len}
-use Rattle.std.proofs.lemmas.List.{take_rest}
+use Rattle.std.specs.Prelude.{if◌then◌else◌}
 use Rattle.std.specs.Cmp.Lexicographic.{pointwise}
-use Rattle.std.proofs.lemmas.List.Recursion.{is_position_or_len}
-use mathlib.Core.Bool.{Bool, true, false, cond}
+use mathlib.Core.Bool.{Bool, true, false}
 use mathlib.Core.Path.{◌≡◌, refl}
 use mathlib.Core.List.{List, [], ◌∷◌, ◌++◌, append_assoc, append-nil}
-use Prim.Native.Nat.{ℕ, suc, ◌+◌, ◌-◌, ◌≤◌}
+use Prim.Native.Nat.{ℕ, suc, ◌+◌, ◌<◌, ◌≤◌}
+use native.Mathlib.Numerals.{add-one}
 use native.Mathlib.Omega.{arith}
 use lib.Dec.{eqb}
-use lib.ListN.{length, take, drop, length-drop}
-use borrow.Author.Tests.{ltb-false}
+use lib.ListN.{length, get_or, take, drop, length-drop, drop_of_length-le}
+use lib.Seq.{drop-cons}
+use borrow.Author.Tests.{eq-eqb, ne_eqb}
 use Rattle.rules.specs.Text.{space, same, pieces, joined}
 use Rattle.text.specs.Pieces.{first_length, behind, unspaced}
-
--- the first piece ends at the first space
-first_is : (bs : List ℕ) → first_length bs ≡ position_or_len (λ (b : ℕ). eqb b space) bs
-unfolding first_length
-first_is = is_position_or_len first_length (λ (b : ℕ). eqb b space) refl step
-  where
-    step : (b : ℕ) (bs : List ℕ) → first_length (b ∷ bs) ≡ cond (eqb b space) 0 (1 + first_length bs)
-    step b bs = go (eqb b space)
-      where
-        go : (t : Bool) → (if t then 0 else suc (first_length bs)) ≡ cond t 0 (1 + first_length bs)
-        go true = refl
-        go false = omega arith
 
 first_within : (bs : List ℕ) → first_length bs ≤ length bs
 unfolding first_length
@@ -36,25 +23,25 @@ first_within (b ∷ bs) = go (eqb b space) (first_within bs)
     go true w = omega arith
     go false w = omega arith
 
--- the piece that starts at the place at, by what `position` tells of the text from there on
-module _ (s : List ℕ) (at : ℕ) where
-  abbrev spaced : List ℕ → Option ℕ
-  spaced bs = position (λ (b : ℕ). eqb b space) bs
+-- the piece that starts at the place at
+module _ (s : List ℕ) (at i : ℕ) (e : i + first_length (drop i s) ≡ at + first_length (drop at s)) where
+  pub end_found : i < length s → get_or s i 0 ≡ space → i ≡ at + first_length (drop at s)
+  unfolding first_length
+  end_found h q =
+      let z : first_length (drop i s) ≡ 0 = rw (drop-cons s i 0 h, eq-eqb _ _ q) in
+      omega arith
 
-  pub end_at : (n : ℕ) → Some n ≡ spaced (take (length s - at) (drop at s)) → at + n ≡ at + first_length (drop at s)
-  end_at n e = rw first_is (go (nat_lt (position_or_len (λ (b : ℕ). eqb b space) (drop at s)) (length (drop at s))) (rw take_rest at e))
-    where
-      go : (t : Bool) → Some n ≡ cond t (Some (position_or_len (λ (b : ℕ). eqb b space) (drop at s))) None → at + n ≡ at + position_or_len (λ (b : ℕ). eqb b space) (drop at s)
-      go true q = let k : position_or_len (λ (b : ℕ). eqb b space) (drop at s) ≡ n = cc in omega arith
-      go false q = cc
+  pub end_next : i < length s → (get_or s i 0 ≡ space → ⊥) → i + 1 + first_length (drop (i + 1) s) ≡ at + first_length (drop at s)
+  unfolding first_length
+  end_next h n =
+      let z : first_length (drop i s) ≡ suc (first_length (drop (i + 1) s)) = rw (drop-cons s i 0 h, ne_eqb _ _ n, add-one) in
+      omega arith
 
-  pub end_past : None ≡ spaced (take (length s - at) (drop at s)) → at ≤ length s → length s ≡ at + first_length (drop at s)
-  end_past e h = go (nat_lt (position_or_len (λ (b : ℕ). eqb b space) (drop at s)) (length (drop at s))) refl (rw take_rest at e)
-    where
-      go : (t : Bool) → nat_lt (position_or_len (λ (b : ℕ). eqb b space) (drop at s)) (length (drop at s)) ≡ t
-          → None ≡ cond t (Some (position_or_len (λ (b : ℕ). eqb b space) (drop at s))) None → length s ≡ at + first_length (drop at s)
-      go true p q = cc
-      go false p q = omega (arith, ltb-false _ _ p, first_is (drop at s), first_within (drop at s), length-drop at s)
+  pub end_last : length s ≤ i → i ≡ at + first_length (drop at s)
+  unfolding first_length
+  end_last l =
+      let z : first_length (drop i s) ≡ 0 = rw (drop_of_length-le s l) in
+      omega arith
 
 pub end_within : (s : List ℕ) (at r : ℕ) → at ≤ length s → r ≡ at + first_length (drop at s) → r ≤ length s
 end_within s at r h e = omega (arith, rw length-drop at (first_within (drop at s)))
