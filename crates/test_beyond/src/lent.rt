@@ -14,7 +14,8 @@ pub(crate) fn copy(from: &[u8], to: &mut [u8]) {
 
 // Compares as much as there is in both.
 pub(crate) fn same_bytes(a: &[u8], b: &[u8]) -> bool {
-    a.iter().zip(b).all(|(x, y)| *x == *y)
+    let n = a.len().min(b.len());
+    a[..n] == b[..n]
 }
 
 // Where the zeros begin and end, how many there are, and how many bytes are neither zero nor as they were filled.
