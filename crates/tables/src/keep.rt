@@ -29,5 +29,5 @@ fn guests_right(tables: Tables) -> bool
 pub fn keep_rules(tables: Tables) -> bool
     ensures { result ≡ keep_rules tables }
 {
-    guests_right(tables) && !pages_shared(tables) && !source_twice(tables)
+    guests_right(tables) & !pages_shared(tables) & !source_twice(tables)
 }

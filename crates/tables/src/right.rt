@@ -20,7 +20,7 @@ const DEVINOS: u8 = 128;
 pub(crate) fn versions_right(v: Versions) -> bool
     ensures { result ≡ versions_right v }
 {
-    v.sun4v <= 1 && v.core <= 1 && v.interrupt <= 2 && v.statistics <= 1
+    (v.sun4v <= 1) & (v.core <= 1) & (v.interrupt <= 2) & (v.statistics <= 1)
 }
 
 // major is the negotiated version of group 2.
@@ -42,13 +42,13 @@ fn enabled_right(major: u8, s: Source) -> bool
 pub(crate) fn source_right(cpus: u8, major: u8, s: Source) -> bool
     ensures { result ≡ source_right_under cpus major s }
 {
-    s.devhandle < DEVHANDLES
-        && s.devino < DEVINOS
-        && s.enabled <= 1
-        && s.state <= 2
-        && s.target < cpus
-        && cookie_right(major, s)
-        && enabled_right(major, s)
+    (s.devhandle < DEVHANDLES)
+        & (s.devino < DEVINOS)
+        & (s.enabled <= 1)
+        & (s.state <= 2)
+        & (s.target < cpus)
+        & cookie_right(major, s)
+        & enabled_right(major, s)
 }
 
 fn places_right(e: Extents) -> bool
@@ -61,5 +61,5 @@ fn places_right(e: Extents) -> bool
 pub(crate) fn extents_keep(e: Extents) -> bool
     ensures { result ≡ extents_keep e }
 {
-    1 <= e.extents && places_right(e) && ascend(e)
+    (1 <= e.extents) & places_right(e) & ascend(e)
 }

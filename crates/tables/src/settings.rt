@@ -8,7 +8,7 @@ ghost use Rattle.rules.specs.Tables.{list_right, place_right, ring_right, record
 ghost use Rattle.memory.specs.Ready.{present};
 
 use crate::blank::{cpu_blank, source_blank, tsb_blank};
-use crate::lists::list_right;
+use crate::lists::{every, list_right};
 use crate::right::{source_right, versions_right};
 use records::{judge_ring, judge_statistics, judge_tsb};
 use rules::{Cpu, Extents, Plant, QUEUES, Queue, QueueRecord, Ring, Tsbs};
@@ -47,7 +47,7 @@ fn queues_right(e: Extents, queues: [Queue; QUEUES]) -> bool
     requires { e.extents ≤ extent_limit }
     ensures { result ≡ all_below queue_limit (λ q. record_right (valid (present e)) (get_or queues q blank_queue).held) }
 {
-    queues.iter().all(|queue| record_right(e, queue.held))
+    every(&queues, |queue| record_right(e, queue.held))
 }
 
 fn tsbs_right(e: Extents, tsbs: Tsbs) -> bool
@@ -63,9 +63,9 @@ fn cpu_right(e: Extents, cpu: Cpu) -> bool
     ensures { result ≡ cpu_right (valid (present e)) cpu }
 {
     queues_right(e, cpu.queue)
-        && tsbs_right(e, cpu.ctx0)
-        && tsbs_right(e, cpu.ctxnon0)
-        && judge_statistics(e, cpu.statistics).is_ok()
+        & tsbs_right(e, cpu.ctx0)
+        & tsbs_right(e, cpu.ctxnon0)
+        & judge_statistics(e, cpu.statistics).is_ok()
 }
 
 fn cpus_right(e: Extents, plant: Plant) -> bool
@@ -93,8 +93,5 @@ pub(crate) fn plant_keeps(e: Extents, plant: Plant) -> bool
     requires { e.extents ≤ extent_limit }
     ensures { result ≡ plant_keeps (valid (present e)) plant }
 {
-    1 <= plant.cpus
-        && versions_right(plant.versions)
-        && cpus_right(e, plant)
-        && sources_right(plant)
+    (1 <= plant.cpus) & versions_right(plant.versions) & cpus_right(e, plant) & sources_right(plant)
 }

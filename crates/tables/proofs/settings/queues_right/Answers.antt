@@ -1,9 +1,6 @@
 -- `tables::settings::queues_right` meets its contract: each queue's record passes the test.
 use mathlib.Core.Path.{◌∙◌}
 use Rattle.std.proofs.Common.{◌≡◌, arith, length, rules}
-use Rattle.std.proofs.lemmas.Iterator.{YieldsList-from_slice}
-use Rattle.std.proofs.lemmas.Iterator.Search.{all_from_yields_List}
-use borrow.Author.Tests.{tests}
 use Rattle.memory.specs.Ready.{present}
 use Rattle.rules.specs.declared.Queue.{Queue}
 use Rattle.rules.specs.Limits.{queue_limit}
@@ -17,5 +14,4 @@ pub returns : goal.returns
 returns c =
     let n : length c.args.queues ≡ queue_limit = omega arith in
     let right = λ (u : Queue). record_right (valid (present c.args.e)) u.held in
-    all_from_yields_List right _ _ c.all.result c.all.ensures.ran (YieldsList-from_slice c.args.queues cc) (λ x b q k. search (rules, tests))
-    ∙ rw n at (all_items blank_queue right c.args.queues)
+    c.every.ensures right (λ x r k. search rules) ∙ rw n at (all_items blank_queue right c.args.queues)
